@@ -10,6 +10,8 @@
 SHIM := $(dir $(lastword $(MAKEFILE_LIST)))
 PREFIX ?= /usr/local
 HUTTAVEL_INCLUDE ?= $(SHIM)../include
+# The version stands in the header.
+HUTTAVEL_VERSION = $(shell sed -n 's/^.define HUTTAVEL_VERSION "\(.*\)"$$/\1/p' $(HUTTAVEL_INCLUDE)/huttavel.h)
 CFLAGS ?= -O2
 CXX ?= c++
 SHIM_FLAGS := -std=c99 -Wall -Wextra -pedantic -I $(SHIM) -I $(HUTTAVEL_INCLUDE)
@@ -41,7 +43,7 @@ install-curses: curses
 	install -m 644 $(SHIM_HEADERS) $(DESTDIR)$(PREFIX)/include/huttavel
 	install -m 644 $(SHIM_OUT)/libhuttavel_curses.a $(DESTDIR)$(PREFIX)/lib
 	printf '%s\n' 'prefix=$(PREFIX)' 'libdir=$${prefix}/lib' 'includedir=$${prefix}/include/huttavel' '' \
-	    'Name: huttavel_curses' 'Description: curses.h over huttavel' 'Version: 1.0' \
+	    'Name: huttavel_curses' 'Description: curses.h over huttavel' 'Version: $(HUTTAVEL_VERSION)' \
 	    'Libs: -L$${libdir} -lhuttavel_curses -lhuttavel' 'Cflags: -I$${includedir}' \
 	    > $(DESTDIR)$(PREFIX)/lib/pkgconfig/huttavel_curses.pc
 

@@ -46,6 +46,9 @@
 extern "C" {
 #endif
 
+/* The version, which is that of the programs too. */
+#define HUTTAVEL_VERSION "0.1.0"
+
 /* A handle of a screen. Its members belong to the library. */
 typedef struct huttavel {
     void *at;

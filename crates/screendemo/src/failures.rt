@@ -1,5 +1,6 @@
 //! Why the program ends with a status other than 0.
 
+use crate::reasons::Reason;
 use screen_scripts::DemoFault;
 use thiserror::Error;
 
@@ -18,6 +19,9 @@ pub enum DemoFailure {
     /// The script was not run to its end.
     #[error("{0}")]
     Demo(DemoFault),
+    /// The script was not run to its end, since a line is bad for this reason.
+    #[error("{0}: {1}")]
+    Line(DemoFault, Reason),
     /// Memory ran out.
     #[error("out of memory")]
     NoMemory,
@@ -28,7 +32,10 @@ impl DemoFailure {
     pub fn status(&self) -> u8 {
         match self {
             DemoFailure::Words(_) | DemoFailure::NotText => 2,
-            DemoFailure::Read | DemoFailure::Demo(_) | DemoFailure::NoMemory => 1,
+            DemoFailure::Read
+            | DemoFailure::Demo(_)
+            | DemoFailure::Line(_, _)
+            | DemoFailure::NoMemory => 1,
         }
     }
 }

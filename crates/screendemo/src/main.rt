@@ -1,15 +1,17 @@
 //! Runs a script that draws on a screen, and prints what a terminal shows of it. With `-r` it writes the terminal's
 //! bytes instead. With `-e` it explains the script's last update: each operation that is sent with the bytes of its
 //! text, and how many bytes these are, beside those of the joined repaint and of painting from scratch. With `--picture`
-//! it draws the last screen as an SVG.
+//! it draws the last screen as an SVG. With `-v` it says why a line is not a command.
 #![tactic(auto)]
 
+mod arguments;
 mod explaining;
 mod failures;
 mod last_update;
 mod pages;
 mod pictures;
 mod pricing;
+mod reasons;
 mod scripts;
 mod words;
 
@@ -17,6 +19,7 @@ use explaining::explanation;
 use failures::DemoFailure;
 use pictures::picture;
 use program_input::{InputFault, read_input};
+use reasons::reason_at;
 pub use screen_scripts::{DemoFault, refusals, run};
 use std::io;
 use std::io::Write;
@@ -33,9 +36,23 @@ fn script(rt: &HostRuntime) -> Result<Vec<u8>, DemoFailure> {
 }
 
 fn demonstrate(rt: &HostRuntime) -> Result<(), DemoFailure> {
-    let task = asked(rt)?;
+    let asked = asked(rt)?;
     let script = script(rt)?;
-    perform(rt, task, &script)
+    match perform(rt, asked.task, &script) {
+        Err(DemoFailure::Demo(DemoFault::BadCommand(line))) if asked.is_verbose => {
+            Err(at_line(rt, &script, line))
+        }
+        ended => ended,
+    }
+}
+
+// The failure for a bad line, with the reason unless memory runs out for it.
+fn at_line(rt: &HostRuntime, script: &[u8], line: u32) -> DemoFailure {
+    let fault = DemoFault::BadCommand(line);
+    match reason_at(rt.alloc(), script, line) {
+        Ok(Some(reason)) => DemoFailure::Line(fault, reason),
+        Ok(None) | Err(_) => DemoFailure::Demo(fault),
+    }
 }
 
 fn perform(rt: &HostRuntime, task: Task, script: &[u8]) -> Result<(), DemoFailure> {

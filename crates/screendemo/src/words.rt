@@ -2,7 +2,8 @@
 
 use crate::failures::DemoFailure;
 use clap::error::ErrorKind;
-use clap::{Arg, ArgAction, Command};
+use clap::{Arg, ArgAction, ArgGroup, Command};
+use program_input::VERSION;
 use std::alloc::{AllocError, Global};
 use std::env::Env;
 use std::io;
@@ -20,17 +21,40 @@ pub enum Task {
     Picture,
 }
 
+/// What the command line asks for.
+#[derive(Clone, Copy, PartialEq, Eq)]
+pub struct Request {
+    /// What is done with the script.
+    pub task: Task,
+    /// Whether it is said why a line is not a command.
+    pub is_verbose: bool,
+}
+
 /// What the command line asks for. A request for the usage text is refused with it.
-pub fn asked(rt: &HostRuntime) -> Result<Task, DemoFailure> {
+pub fn asked(rt: &HostRuntime) -> Result<Request, DemoFailure> {
     let words = words(rt)?;
-    match task_in(rt.alloc(), words.as_slice()) {
-        Ok(task) => Ok(task),
+    let Ok(version) = format!(in rt.alloc(); "screendemo {VERSION}") else {
+        return Err(DemoFailure::NoMemory);
+    };
+    match asked_in(rt.alloc(), version.as_str(), words.as_slice()) {
+        Ok(asked) => Ok(asked),
         Err(error) if error.kind() == ErrorKind::OutOfMemory => Err(DemoFailure::NoMemory),
         Err(error) => Err(DemoFailure::Words(error)),
     }
 }
 
-fn command<'a>(alloc: Global) -> Result<Command<'a>, AllocError> {
+fn command<'a>(alloc: Global, version: &'a str) -> Result<Command<'a>, AllocError> {
+    let command = Command::new(alloc, "screendemo")
+        // The usage text tells the version in its first line.
+        .before_help(version)
+        .about("Draws what a script on the standard input says, and prints the screen")
+        .disable_version_flag(true);
+    let command = tasks(alloc, command)?;
+    command.arg(verbose(alloc))?.arg(version_wanted(alloc))
+}
+
+// At most one of the three is given.
+fn tasks<'a>(alloc: Global, command: Command<'a>) -> Result<Command<'a>, AllocError> {
     let raw = Arg::new(alloc, "raw")
         .short('r')
         .action(ArgAction::SetTrue)
@@ -38,40 +62,44 @@ fn command<'a>(alloc: Global) -> Result<Command<'a>, AllocError> {
     let explain = Arg::new(alloc, "explain")
         .short('e')
         .action(ArgAction::SetTrue)
-        .exclusive(true)
         .help("Explains the last update: what is sent, and how many bytes each part takes");
     let picture = Arg::new(alloc, "picture")
         .long("picture")
         .action(ArgAction::SetTrue)
-        .exclusive(true)
         .help("Draws the last screen as an SVG");
-    // The usage text tells the version in its first line.
-    let version = Arg::new(alloc, "version")
+    let tasks = ArgGroup::new(alloc, "tasks");
+    let tasks = tasks.arg("raw")?.arg("explain")?.arg("picture")?;
+    command.arg(raw)?.arg(explain)?.arg(picture)?.group(tasks)
+}
+
+fn verbose<'a>(alloc: Global) -> Arg<'a> {
+    Arg::new(alloc, "verbose")
+        .short('v')
+        .action(ArgAction::SetTrue)
+        .help("Says why a line is not a command")
+}
+
+fn version_wanted<'a>(alloc: Global) -> Arg<'a> {
+    Arg::new(alloc, "version")
         .short('V')
         .long("version")
         .action(ArgAction::Help)
-        .help("Print version");
-    Command::new(alloc, "screendemo")
-        .before_help("screendemo 0.1.0")
-        .about("Draws what a script on the standard input says, and prints the screen")
-        .disable_version_flag(true)
-        .arg(raw)?
-        .arg(explain)?
-        .arg(picture)?
-        .arg(version)
+        .help("Print version")
 }
 
-fn task_in(alloc: Global, words: &[String]) -> Result<Task, clap::Error> {
-    let matches = command(alloc)?.try_get_matches_from(words)?;
-    if matches.get_flag("explain") {
-        Ok(Task::Explain)
+fn asked_in(alloc: Global, version: &str, words: &[String]) -> Result<Request, clap::Error> {
+    let matches = command(alloc, version)?.try_get_matches_from(words)?;
+    let task = if matches.get_flag("explain") {
+        Task::Explain
     } else if matches.get_flag("picture") {
-        Ok(Task::Picture)
+        Task::Picture
     } else if matches.get_flag("raw") {
-        Ok(Task::Send)
+        Task::Send
     } else {
-        Ok(Task::Print)
-    }
+        Task::Print
+    };
+    let is_verbose = matches.get_flag("verbose");
+    Ok(Request { task, is_verbose })
 }
 
 fn words(rt: &(impl Env + AllocGlobal)) -> Result<Vec<String>, DemoFailure> {
