@@ -2,6 +2,6 @@
 complete -c tic -s c -r -F -d 'Compiles a source, and prints the name and size of each entry'
 complete -c tic -s o -r -F -d 'Compiles a source, and writes the files below a folder'
 complete -c tic -s d -r -F -d 'Prints a compiled file as source'
-complete -c tic -s v -d 'Says which entry an error is in, and how often each unknown name occurs'
+complete -c tic -s v -d 'Says where errors and warnings are, and how often each unknown name occurs'
 complete -c tic -s V -l version -d 'Print version'
 complete -c tic -s h -l help -d 'Print help'
