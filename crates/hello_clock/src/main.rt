@@ -7,6 +7,8 @@ use curses::{Screen, Win, WinFault, bundled};
 use std::time::Instant;
 use terminal::{Event, Program, TerminalScreen};
 
+const WIDTH: u32 = 20;
+
 #[derive(Drop)]
 struct Clock<'a> {
     rt: &'a HostRuntime,
@@ -15,23 +17,24 @@ struct Clock<'a> {
 }
 
 impl Clock<'_> {
-    // The window. A new screen has none yet, and one that is larger than the screen is refused, so it is clipped.
-    fn window(&mut self, screen: &mut Screen) -> Result<Win, WinFault> {
-        if let Some(window) = self.window {
-            return Ok(window);
-        }
+    // The window. A new screen has none yet, and a window that does not fit is refused: there is none on a screen that is
+    // too narrow.
+    fn window(&mut self, screen: &mut Screen) -> Result<Option<Win>, WinFault> {
         let (rows, columns) = screen.size(Win(0))?;
-        let width = columns.min(20);
-        let (row, column) = (rows / 2, (columns - width) / 2);
-        let window = screen.new_window(self.rt.alloc(), 1, width, row, column)?;
-        self.window = Some(window);
-        Ok(window)
+        if self.window.is_none() && columns >= WIDTH {
+            let column = (columns - WIDTH) / 2;
+            let window = screen.new_window(self.rt.alloc(), 1, WIDTH, rows / 2, column)?;
+            self.window = Some(window);
+        }
+        Ok(self.window)
     }
 }
 
 impl Program for Clock<'_> {
     fn draw(&mut self, screen: &mut Screen) -> Result<(), WinFault> {
-        let window = self.window(screen)?;
+        let Some(window) = self.window(screen)? else {
+            return Ok(());
+        };
         let seconds = match self.start.elapsed(self.rt) {
             Ok(passed) => passed.as_secs(),
             Err(_) => 0,
