@@ -204,7 +204,7 @@ int endwin(void)
 
     if (!current || current->has_ended)
         return ERR;
-    if (current->visibility != 1)
+    if (current->visibility != 1 && visibility_string(current, 1))
         sent = write_string(current, visibility_string(current, 1));
     huttavel_finish(&current->handle);
     if (write_waiting(current) == ERR)
