@@ -57,6 +57,7 @@ impl TerminalScreen {
         entry: Entry,
     ) -> Result<TerminalScreen, TerminalFault> {
         match TerminalScreen::open_entry(rt, entry) {
+            Err(TerminalFault::Open(OpenFault::NoMemory)) => Err(TerminalFault::NoMemory),
             Err(TerminalFault::Open(fault)) => Err(TerminalFault::Unserved { name, fault }),
             opened => opened,
         }
