@@ -131,6 +131,10 @@ impl TerminalScreen {
     /// Like `event`, but waits for so many tenths of a second at most, by the clock: `Idle` if nothing came. A program
     /// with a clock of its own calls it. A wait takes up to a tenth of a second longer, as a read of the keyboard does.
     pub fn event_within(&mut self, rt: &HostRuntime, tenths: u32) -> Result<Event, TerminalFault> {
+        // What is there already needs no clock.
+        if let Some(event) = self.typed_event(rt)? {
+            return Ok(event);
+        }
         let Ok(start) = Instant::now(rt) else {
             return Err(TerminalFault::Input);
         };
