@@ -70,7 +70,10 @@ pub(crate) fn start_of_entry(source: &[u8], index: usize) -> Option<usize> {
 /// The line that begins at an offset, without its end.
 pub(crate) fn line_at(source: &[u8], start: usize) -> &[u8] {
     let rest = source.get(start..).unwrap_or(&[]);
-    let end = rest.iter().position(|b| *b == b'\n').unwrap_or(rest.len());
+    let end = match rest.iter().position(|b| *b == b'\n') {
+        Some(feed) => feed.saturating_add(1),
+        None => rest.len(),
+    };
     without_end(rest.get(..end).unwrap_or(rest))
 }
 
