@@ -30,7 +30,7 @@ pub(crate) fn locate(
 ) -> Result<Option<Located<'_>>, AllocError> {
     match fault {
         TicFault::Source(fault) => in_source(alloc, source, fault, index),
-        TicFault::Encode(_) => Ok(start_of_entry(source, index).map(whole)),
+        TicFault::Encode(_) => Ok(whole_at(start_of_entry(source, index))),
         TicFault::BadFileName => Ok(bad_file_name(source, index)),
         TicFault::Decode(_) | TicFault::NoMemory => Ok(None),
     }
@@ -45,7 +45,7 @@ fn in_source(
     match fault {
         SourceFault::NotAscii(line) => Ok(not_ascii(source, line)),
         SourceFault::FieldBeforeEntry(line) => Ok(early_field(source, line)),
-        SourceFault::BadNames(line) => Ok(start_of_line(source, line).map(whole)),
+        SourceFault::BadNames(line) => Ok(whole_at(start_of_line(source, line))),
         SourceFault::BadNumber(line) => Ok(number_on(source, line)),
         SourceFault::DuplicateName(line) => duplicate_name(alloc, source, line),
         SourceFault::TooManyUses => Ok(use_at(source, one_use_too_many(alloc, source)?)),
@@ -63,6 +63,10 @@ fn whole<'a>(offset: usize) -> Located<'a> {
         field: None,
         has_column: false,
     }
+}
+
+fn whole_at<'a>(offset: Option<usize>) -> Option<Located<'a>> {
+    Some(whole(offset?))
 }
 
 fn of_field(field: Field<'_>) -> Located<'_> {
