@@ -185,11 +185,9 @@ impl Editor {
     // Keeps the cursor's line, to paste it. Answers whether there is memory for it.
     fn keep_line(&mut self, has_end: bool) -> bool {
         let kept = self.cut_text.len();
-        let line = match self.text.line(self.cursor.line) {
-            Some(line) => line,
-            None => &[],
-        };
-        if self.cut_text.extend_from_slice(line).is_err() {
+        if let Some(line) = self.text.line(self.cursor.line)
+            && self.cut_text.extend_from_slice(line).is_err()
+        {
             return false;
         }
         if has_end && self.cut_text.push(b'\n').is_err() {
