@@ -13,7 +13,7 @@ mod profile_faults;
 mod profiles;
 mod rendering;
 
-pub use admission::program_at;
+pub use admission::{program_at, sent_at};
 pub use capability::Capability;
 pub use laws::{
     blank_laws, bundled_is_ecma48, bytes_act_as_their_operation, bytes_act_as_their_operations,

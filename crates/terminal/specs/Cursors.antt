@@ -1,9 +1,10 @@
 -- The cursor of a terminal: what a program asks of it, what is known of it, and what is sent for that.
-use Rattle.std.specs.Prelude.{◌≡◌, ◌≢◌, ℕ, ⊤, ◌⊎◌, ◌||◌, not, Bool, true, false, List, [], length, take, Option, Some, None, if◌then◌else◌}
+use Rattle.std.specs.Prelude.{◌≡◌, ℕ, ◌⊎◌, ◌||◌, not, Bool, true, false, List, [], length, take, Option, Some, None, if◌then◌else◌}
 use Rattle.std.specs.Io.KnownBytes.{Appends}
 use Rattle.curses.specs.Writers.{WriterView, counted}
-use Rattle.ti_caps.specs.Description.{Description, text_at}
-use Rattle.ti_param.specs.Padding.{Stripped}
+use Rattle.ti_caps.specs.Description.{Description}
+use Rattle.scr_term.specs.Operations.Admission.{sent_at}
+use Rattle.terminal.specs.declared.cursors.TheConstants.{CIVIS, CNORM}
 
 -- The texts that hide the cursor and show it, where the entry has both; whether it is shown, if that is known; whether
 -- the program asks that it is; and whether the screen is started, so that this counts.
@@ -13,25 +14,14 @@ pub record CursorView : Type 0 where
   pub asked : Bool
   pub is_started : Bool
 
--- The text of a capability without its padding, if that is not empty.
-abbrev pub IsText : Option (List ℕ) → Option (List ℕ) → Type 0
-IsText None None = ⊤
-IsText (Some raw) None = Stripped raw []
-IsText None (Some text) = ⊥
-IsText (Some raw) (Some text) = Stripped raw text × (text ≢ [])
-
 -- Both of two texts.
 abbrev pub both : Option (List ℕ) → Option (List ℕ) → Option (List ℕ × List ℕ)
 both (Some hide) (Some show) = Some (hide, show)
 both hide show = None
 
--- The texts of an entry: those of `civis` and `cnorm`, the strings 13 and 16.
-pub record AreTextsOf (entry : Description) (texts : Option (List ℕ × List ℕ)) : Type 0 where
-  pub hide : Option (List ℕ)
-  pub show : Option (List ℕ)
-  pub is_hide : IsText (text_at entry 13) hide
-  pub is_show : IsText (text_at entry 16) show
-  pub are : texts ≡ both hide show
+-- The texts of an entry without padding, where it has both: those of `civis` and `cnorm`, the strings 13 and 16.
+abbrev pub cursor_texts : Description → Option (List ℕ × List ℕ)
+cursor_texts entry = both (sent_at entry CIVIS) (sent_at entry CNORM)
 
 -- Whether the cursor is to be shown: as asked while the screen is started, and else in any case.
 abbrev pub is_wanted : CursorView → Bool

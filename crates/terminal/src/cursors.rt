@@ -1,15 +1,14 @@
 //! The cursor of the terminal: whether it is shown, and the texts that hide it and show it again.
-ghost use Rattle.std.specs.Prelude.{◌≡◌, ◌||◌, IfErr, IfOk, OnErr, OnOk, Some, None, Bool, true, length, option_map};
+ghost use Rattle.std.specs.Prelude.{◌≡◌, ◌||◌, IfErr, IfOk, OnErr, OnOk, Some, None, Bool, true, length};
 ghost use Rattle.std.specs.Option.{is_some};
-ghost use Rattle.ti_caps.specs.Description.{text_at};
-ghost use Rattle.terminal.specs.Cursors.{AreTextsOf, IsFailed, IsSent, IsText, due, is_due, is_wanted, shown_after, text_due};
+ghost use Rattle.terminal.specs.Cursors.{IsFailed, IsSent, cursor_texts, due, is_due, is_wanted, shown_after, text_due};
 
 use curses::{Counted, Entry, SendFault, Slot};
 use scr_cells::NoMemory;
+use scr_term::sent_at;
 use std::alloc::Global;
 use std::io::ErrorKind;
 use std::marker::Model;
-use ti_param::strip_padding;
 
 // `civis` and `cnorm` (terminfo(5), 'Cursor Motions').
 const CIVIS: Slot = Slot(13);
@@ -54,7 +53,7 @@ impl Model for Cursor {
 impl Cursor {
     /// The cursor of a terminal with this entry, shown. Fails only when memory runs out.
     pub(crate) fn new(alloc: Global, entry: &Entry) -> Result<Cursor, NoMemory>
-        ensures texts { IfOk result (λ cursor. AreTextsOf entry.now cursor.texts) }
+        ensures texts { IfOk result (λ cursor. cursor.texts ≡ cursor_texts entry.now) }
         ensures shown { IfOk result (λ cursor. (cursor.shown ≡ Some true) × (cursor.asked ≡ true)) }
     {
         Ok(Cursor {
@@ -154,27 +153,12 @@ fn cut(sent: usize, kind: ErrorKind) -> SendFault {
 
 // The texts of an entry, if it has both.
 fn texts_of(alloc: Global, entry: &Entry) -> Result<Option<CursorTexts>, NoMemory>
-    ensures { IfOk result (AreTextsOf entry.now) }
+    ensures { IfOk result (λ texts. texts ≡ cursor_texts entry.now) }
 {
-    let hide = text_of(alloc, entry, CIVIS)?;
-    let show = text_of(alloc, entry, CNORM)?;
+    let hide = sent_at(alloc, entry, CIVIS)?;
+    let show = sent_at(alloc, entry, CNORM)?;
     match (hide, show) {
         (Some(hide), Some(show)) => Ok(Some(CursorTexts { hide, show })),
         _ => Ok(None),
-    }
-}
-
-// The text of a capability without its padding, if that is not empty.
-fn text_of(alloc: Global, entry: &Entry, slot: Slot) -> Result<Option<Vec<u8>>, NoMemory>
-    ensures { IfOk result (λ text. IsText (text_at entry.now slot.0) (option_map (λ t. t.items) text)) }
-{
-    let Some(text) = entry.text(slot) else {
-        return Ok(None);
-    };
-    let text = strip_padding(alloc, text)?;
-    if text.is_empty() {
-        Ok(None)
-    } else {
-        Ok(Some(text))
     }
 }

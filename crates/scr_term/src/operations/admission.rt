@@ -182,8 +182,9 @@ fn sent_text(
     sent_at(alloc, entry, capability.slot())
 }
 
-// The text at a position without padding; `None` if that is empty.
-fn sent_at(alloc: Global, entry: &Entry, slot: Slot) -> Result<Option<Vec<u8>>, NoMemory>
+/// What the terminal is sent for the text at a position: that text without padding (terminfo(5), 'Delays and Padding').
+/// `None` if it is absent, or nothing is left of it. The only refusal is NoMemory.
+pub fn sent_at(alloc: Global, entry: &Entry, slot: Slot) -> Result<Option<Vec<u8>>, NoMemory>
     ensures text { IfOk result (λ text. option_map (λ t. t.items) text ≡ sent_at entry.now slot) }
     ensures memory { OnErr result (is_some (text_at entry.now slot.0) ≡ true) }
 {

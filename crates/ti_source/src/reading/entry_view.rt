@@ -1,6 +1,6 @@
 //! Entries of a source, each lent from the lists of all.
 
-ghost use Rattle.std.specs.Prelude.{◌≡◌, ◌≤◌, ◌∷◌, [], IfSome, length, true};
+ghost use Rattle.std.specs.Prelude.{◌≡◌, ◌≤◌, ◌∷◌, [], None, IfSome, List, ℕ, length, true};
 ghost use Rattle.ti_source.specs.Described.{AreGood, IsDescribed};
 ghost use Rattle.ti_caps.specs.Names.{are_names};
 
@@ -75,7 +75,8 @@ impl<'a> EntryView<'a> {
 
     /// The name that the entry uses, if it has no fields of its own and exactly one use.
     pub(crate) fn only_use(&self) -> Option<&'a [u8]>
-        ensures { IfSome result (λ other. (self.now.statements ≡ []) × (self.now.uses ≡ other.now ∷ [])) }
+        ensures some { IfSome result (λ other. (self.now.statements ≡ []) × (self.now.uses ≡ other.now ∷ [])) }
+        ensures none { result ≡ None → (other : List ℕ) → self.now.statements ≡ [] → self.now.uses ≡ other ∷ [] → ⊥ }
     {
         match (self.statements, self.uses) {
             ([], [other]) => Some(other.0.as_slice()),
