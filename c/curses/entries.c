@@ -8,11 +8,15 @@ enum {
     CURSOR_INVISIBLE = 13,
     CURSOR_NORMAL = 16,
     CURSOR_VISIBLE = 20,
+    ENTER_SCREEN = 28,
     ENTER_INSERT = 31,
+    EXIT_SCREEN = 40,
     EXIT_INSERT = 42,
     FLASH = 45,
     INSERT_CHARACTER = 52,
     INSERT_LINE = 53,
+    KEYPAD_LOCAL = 88,
+    KEYPAD_TRANSMIT = 89,
     INSERT_CHARACTERS = 108
 };
 
@@ -120,16 +124,64 @@ static unsigned short_at(const struct text *entry, size_t place)
     return entry->bytes[place] | (unsigned)entry->bytes[place + 1] << 8;
 }
 
-/* The string at a position of an entry that huttavel_open() has read, or NULL. */
+/* Where the offsets of an entry's strings begin, each of two bytes. */
+static size_t offsets_of(const struct text *entry)
+{
+    size_t numbers = short_at(entry, 0) == 0x021e ? 4 : 2;
+    size_t names = short_at(entry, 2), flags = short_at(entry, 4);
+
+    return 12 + names + flags + (names + flags) % 2 + numbers * short_at(entry, 6);
+}
+
+/* The string at a position of an entry, or NULL. */
 static const char *string_of(const SCREEN *screen, unsigned position)
 {
     const struct text *entry = &screen->entry;
-    size_t numbers = short_at(entry, 0) == 0x021e ? 4 : 2;
-    size_t names = short_at(entry, 2), flags = short_at(entry, 4), count = short_at(entry, 8);
-    size_t offsets = 12 + names + flags + (names + flags) % 2 + numbers * short_at(entry, 6);
+    size_t offsets = offsets_of(entry), count = short_at(entry, 8);
     size_t begin = position < count ? short_at(entry, offsets + 2 * position) : 0xffff;
+    size_t place = offsets + 2 * count + begin;
 
-    return begin < 0xfffe ? (const char *)entry->bytes + offsets + 2 * count + begin : NULL;
+    if (begin >= 0xfffe || place >= entry->length || !memchr(entry->bytes + place, '\0', entry->length - place))
+        return NULL;
+    return (const char *)entry->bytes + place;
+}
+
+/* A string of the entry as it is sent, without padding (terminfo(5), 'Delays and Padding'), in memory of its own; empty
+   where the entry has none. NULL bytes if memory runs out. */
+static struct text sent_text(const SCREEN *screen, unsigned position)
+{
+    const char *string = string_of(screen, position);
+    struct text text = {NULL, 0};
+
+    text.bytes = malloc(string ? strlen(string) + 1 : 1);
+    while (text.bytes && string && *string) {
+        const char *end = strncmp(string, "$<", 2) ? NULL : strchr(string, '>');
+
+        if (end)
+            string = end + 1;
+        else
+            text.bytes[text.length++] = (uint8_t)*string++;
+    }
+    return text;
+}
+
+/* A copy of an entry that has none of the strings which are sent here, at the two ends and for the keypad. */
+static struct text entry_of_updates(const struct text *entry)
+{
+    static const unsigned sent_here[] = {ENTER_SCREEN, EXIT_SCREEN, KEYPAD_LOCAL, KEYPAD_TRANSMIT};
+    struct text copy = {malloc(entry->length + 1), entry->length};
+    size_t n;
+
+    if (!copy.bytes)
+        return copy;
+    memcpy(copy.bytes, entry->bytes, entry->length);
+    for (n = 0; n < sizeof sent_here / sizeof *sent_here; n++) {
+        size_t place = offsets_of(entry) + 2 * sent_here[n];
+
+        if (sent_here[n] < short_at(entry, 8) && place + 2 <= copy.length)
+            copy.bytes[place] = copy.bytes[place + 1] = 0xff;
+    }
+    return copy;
 }
 
 /* The last of an entry's names, which describes the terminal, in memory of its own. */

@@ -62,8 +62,12 @@ static void decide(SCREEN *screen, uint8_t byte)
 /* What others did to the terminal meanwhile: a new size is a key, and a terminal that was given back is repainted. */
 static int news(SCREEN *screen)
 {
-    if (screen->is_resized && resize(screen))
+    if (screen->is_resized)
+        resize(screen);
+    if (screen->has_new_size) {
+        screen->has_new_size = false;
         return KEY_RESIZE;
+    }
     if (screen->is_disturbed && !screen->has_ended)
         update(screen);
     return ERR;
@@ -101,11 +105,11 @@ static int read_byte(WINDOW *window, long long end)
     return KEY_MAX;
 }
 
-/* The next key, waited for as the window says. */
+/* The next key. It is waited for as the window says, where nodelay() or timeout() set that, or else as halfdelay(). */
 static int next_key(WINDOW *window)
 {
     SCREEN *screen = window->screen;
-    int wait = screen->half_delay ? 100 * screen->half_delay : window->delay;
+    int wait = window->delay < 0 && screen->half_delay ? 100 * screen->half_delay : window->delay;
     long long end = wait < 0 ? -1 : now() + wait;
 
     for (;;) {
@@ -132,6 +136,8 @@ int wgetch(WINDOW *window)
     screen = window->screen;
     if (!window->is_pad && (window->has_moved || is_wintouched(window)))
         wrefresh(window);
+    if (!screen->has_ended)
+        set_transmitting(screen, window->is_keypad);
     key = screen->pushed_count ? screen->pushed[--screen->pushed_count] : next_key(window);
     if (key == '\r' && screen->is_newline)
         key = '\n';

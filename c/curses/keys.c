@@ -38,8 +38,11 @@ static struct {
 char *keyname(int key)
 {
     static char functions[64][12];
+    static char none[] = "-1";
     size_t n;
 
+    if (key == ERR)
+        return none;
     if (key >= 0 && key < KEY_MIN)
         return unctrl((chtype)key);
     if (key >= KEY_F0 && key <= KEY_F(63)) {

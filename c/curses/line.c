@@ -9,7 +9,8 @@ static int set_program(SCREEN *screen, const struct termios *modes)
     return OK;
 }
 
-/* Sets and clears local modes, and input modes, of the program's line. */
+/* Sets and clears local modes, and input modes, of the program's line. Where it is read line by line, a return ends a
+   line; otherwise getch() gives it as nl() says. */
 static int change_modes(tcflag_t on, tcflag_t off, tcflag_t input_on, tcflag_t input_off)
 {
     struct termios modes;
@@ -18,47 +19,55 @@ static int change_modes(tcflag_t on, tcflag_t off, tcflag_t input_on, tcflag_t i
         return ERR;
     modes = current->program;
     modes.c_lflag = (modes.c_lflag | on) & ~off;
-    modes.c_iflag = (modes.c_iflag | input_on) & ~input_off;
+    modes.c_iflag = (modes.c_iflag | input_on) & ~(input_off | ICRNL);
+    if (modes.c_lflag & ICANON)
+        modes.c_iflag |= ICRNL;
     modes.c_cc[VMIN] = 1;
     modes.c_cc[VTIME] = 0;
     return set_program(current, &modes);
 }
 
-/* The modes that a program begins with: it echoes by itself, and a line feed is what it sends. */
+/* The modes that a program begins with: bytes come one by one, it echoes by itself, and a line feed is what it sends. */
 static int begin_modes(SCREEN *screen)
 {
     struct termios modes = screen->shell;
 
-    modes.c_lflag &= ~(tcflag_t)(ECHO | ECHONL);
+    modes.c_lflag &= ~(tcflag_t)(ICANON | ECHO | ECHONL);
     modes.c_iflag &= ~(tcflag_t)(ICRNL | INLCR | IGNCR);
     modes.c_oflag &= ~(tcflag_t)ONLCR;
+    modes.c_cc[VMIN] = 1;
+    modes.c_cc[VTIME] = 0;
     screen->is_echo = true;
     screen->is_newline = true;
     return set_program(screen, &modes);
 }
 
-int cbreak(void)
+/* Changes how input is read, which ends what halfdelay() began. */
+static int change_input(tcflag_t on, tcflag_t off, tcflag_t input_on, tcflag_t input_off)
 {
     if (current)
         current->half_delay = 0;
-    return change_modes(ISIG, ICANON, 0, 0);
+    return change_modes(on, off, input_on, input_off);
+}
+
+int cbreak(void)
+{
+    return change_input(ISIG, ICANON, 0, 0);
 }
 
 int nocbreak(void)
 {
-    if (current)
-        current->half_delay = 0;
-    return change_modes(ICANON, 0, 0, 0);
+    return change_input(ICANON, 0, 0, 0);
 }
 
 int raw(void)
 {
-    return change_modes(0, ICANON | ISIG | IEXTEN, 0, IXON | BRKINT | PARMRK);
+    return change_input(0, ICANON | ISIG | IEXTEN, 0, IXON | BRKINT | PARMRK);
 }
 
 int noraw(void)
 {
-    return change_modes(ICANON | ISIG | IEXTEN, 0, IXON | BRKINT, 0);
+    return change_input(ICANON | ISIG | IEXTEN, 0, IXON | BRKINT, 0);
 }
 
 int halfdelay(int tenths)

@@ -26,44 +26,45 @@ static void ask_size(const SCREEN *screen, uint32_t *rows, uint32_t *columns)
         *rows = *columns = 0;
 }
 
-/* Opens a handle on the screen's entry. */
+/* Opens a handle on the screen's entry, without the strings which are sent here. A terminal whose size nothing says has
+   24 rows of 80 columns. */
 static uint32_t open_handle(const SCREEN *screen, huttavel *handle, uint32_t rows, uint32_t columns)
 {
-    return huttavel_open(handle, screen->entry.bytes, screen->entry.length, rows, columns, NULL);
+    struct text entry = entry_of_updates(&screen->entry);
+    uint32_t fault = HUTTAVEL_NO_MEMORY;
+
+    if (entry.bytes)
+        fault = huttavel_open(handle, entry.bytes, entry.length, rows, columns, NULL);
+    if (fault == HUTTAVEL_NO_SIZE)
+        fault = huttavel_open(handle, entry.bytes, entry.length, 24, 80, NULL);
+    free(entry.bytes);
+    return fault;
 }
 
-/* The bytes that a call makes on a new handle of this size, in memory of their own. */
-static struct text text_of(const SCREEN *screen, uint32_t rows, uint32_t columns, uint32_t (*make)(huttavel *))
+/* What turns attributes off and moves the cursor to the last line, of a handle that nothing was updated on yet. NULL
+   bytes if memory runs out. */
+static struct text plain_text(huttavel *handle)
 {
     struct text text = {NULL, 0};
-    huttavel handle = HUTTAVEL_CLOSED_HANDLE;
 
-    if (open_handle(screen, &handle, rows, columns) == HUTTAVEL_OK && make(&handle) == HUTTAVEL_OK) {
-        text.length = huttavel_waiting(&handle);
-        text.bytes = malloc(text.length + 1);
-        if (text.bytes)
-            text.length = huttavel_bytes(&handle, text.bytes, text.length);
-        else
-            text.length = 0;
-    }
-    huttavel_close(&handle);
+    if (huttavel_finish(handle) == HUTTAVEL_OK)
+        text.bytes = malloc(huttavel_waiting(handle) + 1);
+    if (text.bytes)
+        text.length = huttavel_bytes(handle, text.bytes, huttavel_waiting(handle));
+    huttavel_took(handle, huttavel_waiting(handle));
     return text;
 }
 
-/* Makes the texts at the two ends for this size, and puts them in place with signals held back. */
-static void make_ends(SCREEN *screen, uint32_t rows, uint32_t columns)
+/* Makes the texts that are sent here. False if memory runs out. */
+static bool make_texts(SCREEN *screen)
 {
-    struct text opening = text_of(screen, rows, columns, huttavel_start), opening_before = screen->opening;
-    struct text closing = text_of(screen, rows, columns, huttavel_finish), closing_before = screen->closing;
-    sigset_t all, before;
-
-    sigfillset(&all);
-    sigprocmask(SIG_SETMASK, &all, &before);
-    screen->opening = opening;
-    screen->closing = closing;
-    sigprocmask(SIG_SETMASK, &before, NULL);
-    free(opening_before.bytes);
-    free(closing_before.bytes);
+    screen->enter = sent_text(screen, ENTER_SCREEN);
+    screen->leave = sent_text(screen, EXIT_SCREEN);
+    screen->transmit = sent_text(screen, KEYPAD_TRANSMIT);
+    screen->local = sent_text(screen, KEYPAD_LOCAL);
+    screen->plain = plain_text(&screen->handle);
+    return screen->enter.bytes && screen->leave.bytes && screen->transmit.bytes && screen->local.bytes &&
+           screen->plain.bytes;
 }
 
 /* Frees all memory of a screen. */
@@ -82,8 +83,11 @@ static void free_screen(SCREEN *screen)
     free(screen->name);
     free(screen->description);
     free(screen->waiting.bytes);
-    free(screen->opening.bytes);
-    free(screen->closing.bytes);
+    free(screen->enter.bytes);
+    free(screen->leave.bytes);
+    free(screen->transmit.bytes);
+    free(screen->local.bytes);
+    free(screen->plain.bytes);
     free(screen);
 }
 
@@ -129,11 +133,10 @@ static SCREEN *made_screen(const char *type, int output, int input, const char *
     }
     strcpy(screen->name, type);
     screen->description = description_of(&screen->entry);
-    if (!make_windows(screen)) {
+    if (!screen->description || !make_windows(screen) || !make_texts(screen)) {
         free_screen(screen);
         return NULL;
     }
-    make_ends(screen, rows, columns);
     return screen;
 }
 
@@ -153,6 +156,22 @@ SCREEN *set_term(SCREEN *screen)
     return before;
 }
 
+/* Takes over the terminal: its modes, and its screen. False, and why, if it allows neither; it is as it was then. */
+static bool take_terminal(SCREEN *screen, const char **reason)
+{
+    screen->is_terminal = tcgetattr(screen->input, &screen->shell) == 0;
+    screen->program = screen->shell;
+    *reason = "the modes of its line cannot be set";
+    if (begin_modes(screen) == ERR)
+        return false;
+    *reason = "it cannot be written to";
+    if (write_text(screen, &screen->enter) == OK)
+        return true;
+    if (screen->is_terminal)
+        tcsetattr(screen->input, TCSADRAIN, &screen->shell);
+    return false;
+}
+
 /* Opens a screen, takes over the terminal, and chooses the screen. */
 static SCREEN *opened_screen(const char *type, FILE *output, FILE *input, const char **reason)
 {
@@ -165,17 +184,16 @@ static SCREEN *opened_screen(const char *type, FILE *output, FILE *input, const 
     screen = made_screen(type, fileno(output), fileno(input), reason);
     if (!screen)
         return NULL;
+    if (!take_terminal(screen, reason)) {
+        free_screen(screen);
+        return NULL;
+    }
     if (delay && atoi(delay) > 0)
         ESCDELAY = atoi(delay);
-    screen->is_terminal = tcgetattr(screen->input, &screen->shell) == 0;
-    screen->program = screen->shell;
-    begin_modes(screen);
     screen->next = screens;
     screens = screen;
     set_term(screen);
     handle_signals();
-    huttavel_start(&screen->handle);
-    write_waiting(screen);
     return screen;
 }
 
@@ -186,11 +204,17 @@ SCREEN *newterm(const char *type, FILE *output, FILE *input)
     return opened_screen(type ? type : getenv("TERM"), output, input, &reason);
 }
 
+/* The screen that initscr() opened, which it does once. */
+static SCREEN *initial;
+
 WINDOW *initscr(void)
 {
     const char *type = getenv("TERM"), *reason;
 
-    if (!opened_screen(type, stdout, stdin, &reason)) {
+    if (initial)
+        return stdscr;
+    initial = opened_screen(type, stdout, stdin, &reason);
+    if (!initial) {
         fprintf(stderr, "Error opening terminal: %s: %s.\n", type ? type : "", reason);
         exit(EXIT_FAILURE);
     }
@@ -199,19 +223,21 @@ WINDOW *initscr(void)
 
 int endwin(void)
 {
-    const char *text;
-    int sent = OK;
+    int done = OK;
 
     if (!current || current->has_ended)
         return ERR;
     if (current->visibility != 1 && visibility_string(current, 1))
-        sent = write_string(current, visibility_string(current, 1));
+        done = write_string(current, visibility_string(current, 1));
     huttavel_finish(&current->handle);
-    if (write_waiting(current) == ERR)
-        sent = ERR;
+    if (current->is_transmitting && write_text(current, &current->local) == ERR)
+        done = ERR;
+    if (write_text(current, &current->leave) == ERR)
+        done = ERR;
     current->has_ended = 1;
-    text = current->is_terminal && tcsetattr(current->input, TCSADRAIN, &current->shell) < 0 ? NULL : "";
-    return text ? sent : ERR;
+    if (current->is_terminal && tcsetattr(current->input, TCSADRAIN, &current->shell) < 0)
+        done = ERR;
+    return done;
 }
 
 bool isendwin(void)
@@ -231,6 +257,8 @@ void delscreen(SCREEN *screen)
         *place = screen->next;
     if (current == screen)
         set_term(NULL);
+    if (initial == screen)
+        initial = NULL;
     free_screen(screen);
 }
 

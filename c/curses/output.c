@@ -112,6 +112,21 @@ static int write_string(SCREEN *screen, const char *text)
     return OK;
 }
 
+/* Writes a text after all that waits. */
+static int write_text(SCREEN *screen, const struct text *text)
+{
+    return write_waiting(screen) == ERR ? ERR : write_all(screen->output, text->bytes, text->length);
+}
+
+/* Makes the terminal's keypad transmit, or work as the terminal's own (terminfo(5), 'Keypad and Function Keys'). */
+static int set_transmitting(SCREEN *screen, bool on)
+{
+    if (on == screen->is_transmitting)
+        return OK;
+    screen->is_transmitting = on;
+    return write_text(screen, on ? &screen->transmit : &screen->local);
+}
+
 int beep(void)
 {
     const char *text = current ? string_of(current, BELL) : NULL;

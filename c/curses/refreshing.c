@@ -19,13 +19,16 @@ static WINDOW *whole_window(SCREEN *screen)
     return window;
 }
 
-/* Takes over the terminal for updates again, after endwin(). */
+static void resize(SCREEN *screen);
+
+/* Takes over the terminal for updates again, after endwin(), at the size that it has now. */
 static void resume(SCREEN *screen)
 {
     if (!screen->has_ended)
         return;
     screen->has_ended = 0;
     enter_terminal(screen);
+    resize(screen);
     screen->is_disturbed = 0;
     huttavel_failed(&screen->handle);
 }
@@ -45,9 +48,9 @@ static int update(SCREEN *screen)
         huttavel_failed(&screen->handle);
     }
     sigfillset(&all);
-    sigprocmask(SIG_SETMASK, &all, &before);
+    pthread_sigmask(SIG_SETMASK, &all, &before);
     fault = huttavel_doupdate(&screen->handle);
-    sigprocmask(SIG_SETMASK, &before, NULL);
+    pthread_sigmask(SIG_SETMASK, &before, NULL);
     if (write_waiting(screen) == ERR)
         return ERR;
     return answer(fault);
@@ -105,10 +108,10 @@ int prefresh(WINDOW *pad, int row, int column, int top, int left, int bottom, in
 }
 
 /* Moves the terminal's cursor now. The place where it was is known, so the first two numbers are not looked at; what
-   was copied and is not sent yet goes first. */
+   was copied and is not sent yet goes first. ERR after endwin(), which has moved it to the last line. */
 int mvcur(int old_row, int old_column, int row, int column)
 {
-    WINDOW *window = current ? whole_window(current) : NULL;
+    WINDOW *window = current && !current->has_ended ? whole_window(current) : NULL;
 
     (void)old_row;
     (void)old_column;

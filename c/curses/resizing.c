@@ -163,6 +163,19 @@ static void copy_pairs(SCREEN *screen, huttavel *to)
             huttavel_set_pair(to, pair, foreground, background);
 }
 
+/* Puts another text in the place of the one that handlers write to leave the screen, while none of them runs. */
+static void replace_plain(SCREEN *screen, struct text plain)
+{
+    struct text before = screen->plain;
+    sigset_t all, blocked;
+
+    sigfillset(&all);
+    pthread_sigmask(SIG_SETMASK, &all, &blocked);
+    screen->plain = plain;
+    pthread_sigmask(SIG_SETMASK, &blocked, NULL);
+    free(before.bytes);
+}
+
 /* Puts the other handle in the screen's place. */
 static void take_over(SCREEN *screen, huttavel to, const struct again *all, int rows, int columns)
 {
@@ -181,38 +194,54 @@ static void take_over(SCREEN *screen, huttavel to, const struct again *all, int 
     }
     free(screen->whole);
     screen->whole = NULL;
-    make_ends(screen, (uint32_t)rows, (uint32_t)columns);
     if (screen == current) {
         LINES = rows;
         COLS = columns;
     }
 }
 
-/* Gives a screen the size that its terminal has now. False if that is the size it has, or memory runs out. */
-static bool resize(SCREEN *screen)
+/* Copies what the screen shows to the other handle, so that it is there until the program draws anew. */
+static uint32_t copy_picture(SCREEN *screen, huttavel *to, int rows, int columns)
+{
+    uint32_t number, fault = huttavel_new_window(to, 0, 0, 0, 0, &number);
+    struct span all_rows = {0, rows}, all_columns = {0, columns};
+    struct plan plan = {all_rows, all_columns};
+
+    if (fault != HUTTAVEL_OK)
+        return fault;
+    copy_cells(screen->shown, to, number, &plan);
+    huttavel_noutrefresh(to, number);
+    return huttavel_delete(to, number);
+}
+
+/* Gives a screen the size that its terminal has now, if that is another one, and memory does not run out. */
+static void resize(SCREEN *screen)
 {
     huttavel to = HUTTAVEL_CLOSED_HANDLE;
     uint32_t rows, columns;
     size_t count = 0;
     const WINDOW *window;
     struct again *all;
-    bool is_made;
+    struct text plain = {NULL, 0};
 
     screen->is_resized = 0;
     ask_size(screen, &rows, &columns);
     if (!rows || ((int)rows == screen->rows && (int)columns == screen->columns))
-        return false;
+        return;
     for (window = screen->windows; window; window = window->next)
         count++;
     all = calloc(count + 1, sizeof *all);
-    is_made = all && write_waiting(screen) == OK && open_handle(screen, &to, rows, columns) == HUTTAVEL_OK &&
-              make_all_again(screen, &to, all, (int)rows, (int)columns) == HUTTAVEL_OK;
-    if (is_made) {
+    if (all && write_waiting(screen) == OK && open_handle(screen, &to, rows, columns) == HUTTAVEL_OK)
+        plain = plain_text(&to);
+    if (plain.bytes && copy_picture(screen, &to, (int)rows, (int)columns) == HUTTAVEL_OK &&
+        make_all_again(screen, &to, all, (int)rows, (int)columns) == HUTTAVEL_OK) {
         copy_pairs(screen, &to);
+        replace_plain(screen, plain);
         take_over(screen, to, all, (int)rows, (int)columns);
+        screen->has_new_size = true;
     } else {
         huttavel_close(&to);
+        free(plain.bytes);
     }
     free(all);
-    return is_made;
 }

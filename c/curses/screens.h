@@ -52,11 +52,14 @@ struct huttavel_curses_screen {
     bool is_undecided;         /* bytes of the keyboard may wait for more, until `decided_at` */
     long long decided_at;
     struct text waiting;       /* where bytes are copied that wait */
-    /* What signal handlers read: the texts at the two ends, made before they are needed. */
-    struct text opening, closing;
+    bool is_transmitting;      /* the terminal's keypad transmits: `smkx` was sent */
+    /* What signal handlers read, made before it is needed: the texts of `smcup`, `rmcup`, `smkx` and `rmkx`, and what
+       turns attributes off and moves the cursor to the last line. */
+    struct text enter, leave, transmit, local, plain;
     volatile sig_atomic_t has_ended;      /* endwin() was called, and no update since */
     volatile sig_atomic_t is_disturbed;   /* others had the terminal: the next update repaints all of it */
     volatile sig_atomic_t is_resized;     /* the size may have changed */
+    bool has_new_size;         /* the next key is KEY_RESIZE */
 };
 
 WINDOW *stdscr, *curscr;

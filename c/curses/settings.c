@@ -63,7 +63,7 @@ int keypad(WINDOW *window, bool on)
     if (!window)
         return ERR;
     window->is_keypad = on;
-    return OK;
+    return window->screen->has_ended ? OK : set_transmitting(window->screen, on);
 }
 
 int nodelay(WINDOW *window, bool on)
@@ -232,11 +232,14 @@ int init_pair(short pair, short foreground, short background)
     return answer(huttavel_set_pair(&current->handle, (uint32_t)pair, (uint32_t)foreground, (uint32_t)background));
 }
 
+/* Pair 0 has the terminal's own colours, whatever they are: they count as white on black. */
 int pair_content(short pair, short *foreground, short *background)
 {
-    uint32_t first = 0, second = 0;
+    uint32_t first = COLOR_WHITE, second = COLOR_BLACK;
 
-    if (!current || pair < 0 || huttavel_pair_colours(&current->handle, (uint32_t)pair, &first, &second) != HUTTAVEL_OK)
+    if (!current || pair < 0)
+        return ERR;
+    if (pair > 0 && huttavel_pair_colours(&current->handle, (uint32_t)pair, &first, &second) != HUTTAVEL_OK)
         return ERR;
     if (foreground)
         *foreground = (short)first;

@@ -38,7 +38,10 @@ static void leave_terminal(const SCREEN *screen)
 {
     if (screen->visibility != 1)
         write_visibility(screen, 1);
-    write_marked(screen->output, screen->closing.bytes, screen->closing.length);
+    write_marked(screen->output, screen->plain.bytes, screen->plain.length);
+    if (screen->is_transmitting)
+        write_marked(screen->output, screen->local.bytes, screen->local.length);
+    write_marked(screen->output, screen->leave.bytes, screen->leave.length);
     if (screen->is_terminal)
         tcsetattr(screen->input, TCSADRAIN, &screen->shell);
 }
@@ -48,21 +51,39 @@ static void enter_terminal(SCREEN *screen)
 {
     if (screen->is_terminal)
         tcsetattr(screen->input, TCSADRAIN, &screen->program);
-    write_marked(screen->output, screen->opening.bytes, screen->opening.length);
+    write_marked(screen->output, screen->enter.bytes, screen->enter.length);
+    if (screen->is_transmitting)
+        write_marked(screen->output, screen->transmit.bytes, screen->transmit.length);
     if (screen->visibility != 1)
         write_visibility(screen, screen->visibility);
     screen->is_disturbed = 1;
     screen->is_resized = 1;
 }
 
-/* Leaves all terminals that are in use, and lets the signal do what it does without a handler. */
-static void end_program(int number)
+/* Leaves all terminals that are in use. */
+static void leave_terminals(void)
 {
     SCREEN *screen;
 
     for (screen = screens; screen; screen = screen->next)
         if (!screen->has_ended)
             leave_terminal(screen);
+}
+
+/* Takes over again all terminals that are in use. */
+static void enter_terminals(void)
+{
+    SCREEN *screen;
+
+    for (screen = screens; screen; screen = screen->next)
+        if (!screen->has_ended)
+            enter_terminal(screen);
+}
+
+/* Leaves the terminals, and lets the signal do what it does without a handler. */
+static void end_program(int number)
+{
+    leave_terminals();
     signal(number, SIG_DFL);
     raise(number);
 }
@@ -70,12 +91,10 @@ static void end_program(int number)
 static void stop_program(int number)
 {
     int error = errno;
-    SCREEN *screen = current;
     struct sigaction action, ours;
     sigset_t stops, before;
 
-    if (screen && !screen->has_ended)
-        leave_terminal(screen);
+    leave_terminals();
     is_stopping = 1;
     memset(&action, 0, sizeof action);
     action.sa_handler = SIG_DFL;
@@ -83,12 +102,11 @@ static void stop_program(int number)
     raise(number);
     sigemptyset(&stops);
     sigaddset(&stops, number);
-    sigprocmask(SIG_UNBLOCK, &stops, &before);
-    sigprocmask(SIG_SETMASK, &before, NULL);
+    pthread_sigmask(SIG_UNBLOCK, &stops, &before);
+    pthread_sigmask(SIG_SETMASK, &before, NULL);
     sigaction(number, &ours, NULL);
     is_stopping = 0;
-    if (screen && !screen->has_ended)
-        enter_terminal(screen);
+    enter_terminals();
     errno = error;
 }
 
@@ -97,8 +115,8 @@ static void continue_program(int number)
     int error = errno;
 
     (void)number;
-    if (!is_stopping && current && !current->has_ended)
-        enter_terminal(current);
+    if (!is_stopping)
+        enter_terminals();
     errno = error;
 }
 

@@ -30,7 +30,7 @@ impl Editor {
     /// Copies the text beside its file, and removes the copy that was made before. Nothing is said if it cannot be made:
     /// it is tried again after the next wait.
     pub(crate) fn keep(&mut self, rt: &HostRuntime, path: &str) {
-        if let Ok(name) = rescue_once(rt, path, &self.text) {
+        if let Ok(name) = rescue_once(rt, self.current_path(path), &self.text) {
             self.forget_kept(rt);
             self.kept = Some(Kept {
                 name,
@@ -47,9 +47,9 @@ impl Editor {
     }
 }
 
-/// Saves the text of an editor that has ended, which would be lost: beside the file, with `.recovered` after its name,
-/// or `.recovered.1` and so on if that is there; or as `edit.recovered` in the folder that `TMPDIR` names, or in `/tmp`,
-/// where no file can be made or written beside the file. Gives the name.
+/// Saves the text of an editor that has ended, which would be lost: beside the file, with `.recovered` after the name
+/// that the text was saved under last, or `.recovered.1` and so on if that is there; or as `edit.recovered` in the folder
+/// that `TMPDIR` names, or in `/tmp`, where no file can be made or written beside the file. Gives the name.
 ///
 /// Refused if memory runs out, if all of a hundred names are there, or if no file can be made or written there either.
 pub fn rescue(rt: &HostRuntime, path: &str, editor: &mut Editor) -> Result<String, SaveFault> {
@@ -57,22 +57,23 @@ pub fn rescue(rt: &HostRuntime, path: &str, editor: &mut Editor) -> Result<Strin
         if kept.version == editor.text.version() {
             return Ok(kept.name);
         }
-        let saved = rescue_text(rt, path, &editor.text)?;
+        let saved = rescue_text(rt, path, editor)?;
         let _ = fs::remove_file(rt, kept.name.as_str());
         return Ok(saved);
     }
-    rescue_text(rt, path, &editor.text)
+    rescue_text(rt, path, editor)
 }
 
-fn rescue_text(rt: &HostRuntime, path: &str, text: &Text) -> Result<String, SaveFault> {
+fn rescue_text(rt: &HostRuntime, path: &str, editor: &Editor) -> Result<String, SaveFault> {
+    let path = editor.current_path(path);
     // The screen's memory is free by now, so where there was none it tries again.
     for _ in 1..MOST_RESCUES {
-        match rescue_once(rt, path, text) {
+        match rescue_once(rt, path, &editor.text) {
             Err(SaveFault::NoMemory) => {}
             saved => return saved,
         }
     }
-    rescue_once(rt, path, text)
+    rescue_once(rt, path, &editor.text)
 }
 
 fn rescue_once(rt: &HostRuntime, path: &str, text: &Text) -> Result<String, SaveFault> {
