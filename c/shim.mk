@@ -1,11 +1,12 @@
-# curses.h over huttavel.h: the archive libhuttavel_curses.a, and its headers. Makefile includes this; it also works by
-# itself: make -f shim.mk.
+# curses.h and panel.h over huttavel.h: the archive libhuttavel_curses.a, and its headers. Makefile includes this; it also
+# works by itself: make -f shim.mk.
 #   curses                   makes out/libhuttavel_curses.a
 #   check-headers            compiles each header by itself, as C99 and as C++, with every warning an error
-#   install-curses           copies archive, headers and a file for pkg-config below PREFIX (and DESTDIR)
+#   install-curses           copies archive, headers and files for pkg-config below PREFIX (and DESTDIR)
 #   uninstall-curses         removes them
 # A program that wants <curses.h> of here is compiled with -I PREFIX/include/huttavel, and linked with
-# -lhuttavel_curses -lhuttavel: pkg-config --cflags --libs huttavel_curses.
+# -lhuttavel_curses -lhuttavel: pkg-config --cflags --libs huttavel_curses. One that asks for -lncurses, -lpanel and so
+# on is linked with -L PREFIX/lib/huttavel, where these names stand for both archives.
 
 SHIM := $(dir $(lastword $(MAKEFILE_LIST)))
 PREFIX ?= /usr/local
@@ -15,23 +16,40 @@ HUTTAVEL_VERSION = $(shell sed -n 's/^.define HUTTAVEL_VERSION "\(.*\)"$$/\1/p' 
 CFLAGS ?= -O2
 CXX ?= c++
 SHIM_FLAGS := -std=c99 -Wall -Wextra -pedantic -I $(SHIM) -I $(HUTTAVEL_INCLUDE)
-SHIM_HEADERS := $(SHIM)curses.h $(SHIM)curses_codes.h
-SHIM_PARTS := $(SHIM)curses.c $(SHIM)curses/screens.h $(wildcard $(SHIM)curses/*.c)
+# curses_codes.h is a part of curses.h.
+SHIM_HEADERS := $(addprefix $(SHIM),curses.h ncurses.h panel.h unctrl.h)
+SHIM_PARTS := $(SHIM)curses_codes.h $(SHIM)curses/screens.h $(wildcard $(SHIM)curses/*.c)
 SHIM_OUT := $(SHIM)out
+SHIM_OBJECTS := $(addprefix $(SHIM_OUT)/,curses.o panel.o)
+# Where things go, DESTDIR and all.
+TO_HEADERS = $(DESTDIR)$(PREFIX)/include/huttavel
+TO_LIBRARIES = $(DESTDIR)$(PREFIX)/lib
+# Other libraries' names for ours, with their files for pkg-config, and the version of ncurses that these tell.
+OTHER_NAMES := ncurses ncursesw curses tinfo panel panelw termcap
+OTHER_PACKAGES := ncurses ncursesw panel panelw tinfo
+OTHER_VERSION := 6.4
+TO_OTHERS = $(TO_LIBRARIES)/huttavel
+# Prints a file for pkg-config: a package, its folder of libraries, its version, its libraries.
+PACKAGE = printf '%s\n' 'prefix=$(PREFIX)' 'libdir=$${prefix}/$(2)' 'includedir=$${prefix}/include/huttavel' '' \
+    "Name: $(1)" 'Description: curses.h over huttavel' 'Version: $(3)' 'Libs: -L$${libdir}'" $(4)" \
+    'Cflags: -I$${includedir}'
 
 .PHONY: curses check-headers install-curses uninstall-curses
 curses: $(SHIM_OUT)/libhuttavel_curses.a
 
-$(SHIM_OUT)/libhuttavel_curses.a: $(SHIM_PARTS) $(SHIM_HEADERS)
-	mkdir -p $(SHIM_OUT)
-	$(CC) $(SHIM_FLAGS) $(CFLAGS) -c $(SHIM)curses.c -o $(SHIM_OUT)/curses.o
+$(SHIM_OUT)/libhuttavel_curses.a: $(SHIM_OBJECTS)
 	rm -f $@
-	$(AR) rcs $@ $(SHIM_OUT)/curses.o
+	$(AR) rcs $@ $(SHIM_OBJECTS)
 
-# Each header alone, and both together in either order.
+# -fPIC, so that shared libraries can have it in them, as modules of interpreters do.
+$(SHIM_OUT)/%.o: $(SHIM)%.c $(SHIM_PARTS) $(SHIM_HEADERS)
+	mkdir -p $(SHIM_OUT)
+	$(CC) $(SHIM_FLAGS) $(CFLAGS) -fPIC -c $< -o $@
+
+# Each header alone, and curses.h and huttavel.h together in either order.
 check-headers:
 	mkdir -p $(SHIM_OUT)
-	for headers in curses.h huttavel.h 'curses.h huttavel.h' 'huttavel.h curses.h'; do \
+	for headers in $(notdir $(SHIM_HEADERS)) huttavel.h 'curses.h huttavel.h' 'huttavel.h curses.h'; do \
 	    for header in $$headers; do echo "#include <$$header>"; done > $(SHIM_OUT)/header.c; \
 	    echo 'int main(void) { return 0; }' >> $(SHIM_OUT)/header.c; \
 	    $(CC) $(SHIM_FLAGS) -Werror -fsyntax-only $(SHIM_OUT)/header.c || exit; \
@@ -39,15 +57,20 @@ check-headers:
 	done
 
 install-curses: curses
-	install -d $(DESTDIR)$(PREFIX)/include/huttavel $(DESTDIR)$(PREFIX)/lib/pkgconfig
-	install -m 644 $(SHIM_HEADERS) $(DESTDIR)$(PREFIX)/include/huttavel
-	install -m 644 $(SHIM_OUT)/libhuttavel_curses.a $(DESTDIR)$(PREFIX)/lib
-	printf '%s\n' 'prefix=$(PREFIX)' 'libdir=$${prefix}/lib' 'includedir=$${prefix}/include/huttavel' '' \
-	    'Name: huttavel_curses' 'Description: curses.h over huttavel' 'Version: $(HUTTAVEL_VERSION)' \
-	    'Libs: -L$${libdir} -lhuttavel_curses -lhuttavel' 'Cflags: -I$${includedir}' \
-	    > $(DESTDIR)$(PREFIX)/lib/pkgconfig/huttavel_curses.pc
+	install -d $(TO_HEADERS) $(TO_LIBRARIES)/pkgconfig $(TO_OTHERS)/pkgconfig
+	install -m 644 $(SHIM_HEADERS) $(SHIM)curses_codes.h $(TO_HEADERS)
+	install -m 644 $(SHIM_OUT)/libhuttavel_curses.a $(TO_LIBRARIES)
+	$(call PACKAGE,huttavel_curses,lib,$(HUTTAVEL_VERSION),-lhuttavel_curses -lhuttavel) \
+	    > $(TO_LIBRARIES)/pkgconfig/huttavel_curses.pc
+	for name in $(OTHER_NAMES); do \
+	    echo 'INPUT(../libhuttavel_curses.a ../libhuttavel.a)' > $(TO_OTHERS)/lib$$name.a || exit; \
+	done
+	for name in $(OTHER_PACKAGES); do \
+	    $(call PACKAGE,$$name,lib/huttavel,$(OTHER_VERSION),-l$$name) > $(TO_OTHERS)/pkgconfig/$$name.pc || exit; \
+	done
 
 uninstall-curses:
-	rm -f $(addprefix $(DESTDIR)$(PREFIX)/include/huttavel/,$(notdir $(SHIM_HEADERS)))
-	rm -f $(DESTDIR)$(PREFIX)/lib/libhuttavel_curses.a $(DESTDIR)$(PREFIX)/lib/pkgconfig/huttavel_curses.pc
-	-rmdir $(DESTDIR)$(PREFIX)/include/huttavel
+	rm -f $(addprefix $(TO_HEADERS)/,$(notdir $(SHIM_HEADERS)) curses_codes.h)
+	rm -f $(TO_LIBRARIES)/libhuttavel_curses.a $(TO_LIBRARIES)/pkgconfig/huttavel_curses.pc
+	rm -f $(OTHER_NAMES:%=$(TO_OTHERS)/lib%.a) $(OTHER_PACKAGES:%=$(TO_OTHERS)/pkgconfig/%.pc)
+	-rmdir $(TO_HEADERS) $(TO_OTHERS)/pkgconfig $(TO_OTHERS)

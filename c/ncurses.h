@@ -1,0 +1,2 @@
+/* Another name of curses.h. */
+#include "curses.h"

@@ -1,0 +1,2 @@
+/* unctrl(), which curses.h declares with chtype. */
+#include "curses.h"
