@@ -1,5 +1,5 @@
-# curses.h and panel.h over huttavel.h: the archive libhuttavel_curses.a, and its headers. Makefile includes this; it also
-# works by itself: make -f shim.mk.
+# curses.h and panel.h over huttavel.h: the archive libhuttavel_curses.a, and its headers. Makefile includes this; it
+# also works by itself: make -f shim.mk.
 #   curses                   makes out/libhuttavel_curses.a
 #   check-headers            compiles each header by itself, as C99 and as C++, with every warning an error
 #   install-curses           copies archive, headers and files for pkg-config below PREFIX (and DESTDIR)
@@ -24,7 +24,8 @@ SHIM_OBJECTS := $(addprefix $(SHIM_OUT)/,curses.o panel.o)
 # Where things go, DESTDIR and all.
 TO_HEADERS = $(DESTDIR)$(PREFIX)/include/huttavel
 TO_LIBRARIES = $(DESTDIR)$(PREFIX)/lib
-# Other libraries' names for ours, with their files for pkg-config, and the version of ncurses that these tell.
+# Other libraries' names for ours: linker scripts, in a folder below that of the archives that they name. Their files
+# for pkg-config tell a version of ncurses.
 OTHER_NAMES := ncurses ncursesw curses tinfo panel panelw termcap
 OTHER_PACKAGES := ncurses ncursesw panel panelw tinfo
 OTHER_VERSION := 6.4
