@@ -18,13 +18,11 @@ pub(crate) fn answer_request(rt: &HostRuntime, path: &str, editor: &mut Editor, 
 // Saves the text, and says how that ended. Where another program has changed the file, the next key may be to overwrite
 // it.
 fn save_text(rt: &HostRuntime, path: &str, editor: &mut Editor, overwrites: bool) {
-    match save(
-        rt,
-        editor.current_path(path),
-        &editor.text,
-        editor.seen,
-        overwrites,
-    ) {
+    let path = match &editor.renamed {
+        Some(name) => name.as_str(),
+        None => path,
+    };
+    match save(rt, path, &editor.text, editor.seen, overwrites) {
         Ok(saved) => say_saved(rt, editor, saved),
         Err(fault) => {
             if fault == SaveFault::Changed {

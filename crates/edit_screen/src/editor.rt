@@ -116,14 +116,6 @@ impl Editor {
         }
     }
 
-    /// The name that the text has: the file's first one, until it was saved under another.
-    pub(crate) fn current_path<'a>(&'a self, first: &'a str) -> &'a str {
-        match &self.renamed {
-            Some(name) => name.as_str(),
-            None => first,
-        }
-    }
-
     /// Whether the text was changed since it was saved.
     pub fn is_changed(&self) -> bool {
         self.text.version() != self.saved

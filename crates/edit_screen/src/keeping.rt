@@ -3,7 +3,6 @@
 
 use crate::editor::Editor;
 use crate::saving::{MOST_NAMES, SaveFault, create, name_beside};
-use edit_text::Text;
 use std::{env, fs};
 
 /// How often it is tried to save a text that would be lost, where memory runs out.
@@ -30,7 +29,7 @@ impl Editor {
     /// Copies the text beside its file, and removes the copy that was made before. Nothing is said if it cannot be made:
     /// it is tried again after the next wait.
     pub(crate) fn keep(&mut self, rt: &HostRuntime, path: &str) {
-        if let Ok(name) = rescue_once(rt, self.current_path(path), &self.text) {
+        if let Ok(name) = rescue_once(rt, path, self) {
             self.forget_kept(rt);
             self.kept = Some(Kept {
                 name,
@@ -65,21 +64,24 @@ pub fn rescue(rt: &HostRuntime, path: &str, editor: &mut Editor) -> Result<Strin
 }
 
 fn rescue_text(rt: &HostRuntime, path: &str, editor: &Editor) -> Result<String, SaveFault> {
-    let path = editor.current_path(path);
     // The screen's memory is free by now, so where there was none it tries again.
     for _ in 1..MOST_RESCUES {
-        match rescue_once(rt, path, &editor.text) {
+        match rescue_once(rt, path, editor) {
             Err(SaveFault::NoMemory) => {}
             saved => return saved,
         }
     }
-    rescue_once(rt, path, &editor.text)
+    rescue_once(rt, path, editor)
 }
 
-fn rescue_once(rt: &HostRuntime, path: &str, text: &Text) -> Result<String, SaveFault> {
-    match text.bytes(rt.alloc()) {
-        Ok(bytes) => rescue_bytes(rt, path, &bytes),
-        Err(_) => Err(SaveFault::NoMemory),
+// The text goes beside the file that it was saved as last.
+fn rescue_once(rt: &HostRuntime, path: &str, editor: &Editor) -> Result<String, SaveFault> {
+    let Ok(bytes) = editor.text.bytes(rt.alloc()) else {
+        return Err(SaveFault::NoMemory);
+    };
+    match &editor.renamed {
+        Some(name) => rescue_bytes(rt, name.as_str(), &bytes),
+        None => rescue_bytes(rt, path, &bytes),
     }
 }
 
