@@ -31,6 +31,14 @@ typedef chtype attr_t;
 typedef struct huttavel_curses_screen SCREEN;
 typedef struct huttavel_curses_window WINDOW;
 
+/* A set of events of the mouse, and one of them with its place on the screen; `id` and `z` are 0. */
+typedef unsigned int mmask_t;
+typedef struct {
+    short id;
+    int x, y, z;
+    mmask_t bstate;
+} MEVENT;
+
 #include "curses_codes.h"
 
 #define ERR (-1)
@@ -55,6 +63,10 @@ typedef struct huttavel_curses_window WINDOW;
  * ESCDELAY is how many milliseconds a lone escape waits to be the beginning of a key. */
 extern WINDOW *stdscr, *curscr;
 extern int LINES, COLS, COLORS, COLOR_PAIRS, ESCDELAY;
+
+/* The characters for the letters of the VT100's graphic set, 0 where there is none; and all names of the terminal. */
+extern chtype acs_map[];
+extern char ttytype[];
 
 /* Screens. initscr() ends the program with a message where it fails. */
 WINDOW *initscr(void);
@@ -149,6 +161,8 @@ int clearok(WINDOW *window, bool on);
 int idlok(WINDOW *window, bool on);
 void idcok(WINDOW *window, bool on);
 int leaveok(WINDOW *window, bool on);
+void immedok(WINDOW *window, bool on);
+int syncok(WINDOW *window, bool on);
 int scrollok(WINDOW *window, bool on);
 int wsetscrreg(WINDOW *window, int top, int bottom);
 int setscrreg(int top, int bottom);

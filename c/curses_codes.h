@@ -1,8 +1,8 @@
-/* The codes of curses.h: attributes, colours, stand-ins for line drawing, and keys. Included by curses.h alone. */
+/* The codes of curses.h: attributes, colours, line drawing, keys and buttons. Included by curses.h alone. */
 #ifndef HUTTAVEL_CURSES_CODES_H
 #define HUTTAVEL_CURSES_CODES_H
 
-/* A chtype is one unsigned int: the byte in bits 0 to 7, the attributes in 8 to 14, the colour pair in 16 to 21. */
+/* A chtype is one unsigned int: the byte in bits 0 to 7, the attributes in 8 to 15, the colour pair in 16 to 21. */
 #define A_NORMAL 0x000000u
 #define A_STANDOUT 0x000100u
 #define A_UNDERLINE 0x000200u
@@ -11,6 +11,16 @@
 #define A_DIM 0x001000u
 #define A_BOLD 0x002000u
 #define A_INVIS 0x004000u
+#define A_ALTCHARSET 0x008000u
+/* No terminal shows these here: they are accepted, and no cell keeps them. */
+#define A_PROTECT 0x01000000u
+#define A_HORIZONTAL 0x02000000u
+#define A_LEFT 0x04000000u
+#define A_LOW 0x08000000u
+#define A_RIGHT 0x10000000u
+#define A_TOP 0x20000000u
+#define A_VERTICAL 0x40000000u
+#define A_ITALIC 0x80000000u
 #define A_CHARTEXT 0x0000ffu
 #define A_COLOR 0x3f0000u
 #define A_ATTRIBUTES 0xffffff00u
@@ -24,6 +34,15 @@
 #define WA_DIM A_DIM
 #define WA_BOLD A_BOLD
 #define WA_INVIS A_INVIS
+#define WA_ALTCHARSET A_ALTCHARSET
+#define WA_PROTECT A_PROTECT
+#define WA_HORIZONTAL A_HORIZONTAL
+#define WA_LEFT A_LEFT
+#define WA_LOW A_LOW
+#define WA_RIGHT A_RIGHT
+#define WA_TOP A_TOP
+#define WA_VERTICAL A_VERTICAL
+#define WA_ITALIC A_ITALIC
 
 #define COLOR_BLACK 0
 #define COLOR_RED 1
@@ -38,32 +57,53 @@
 #define COLOR_PAIR(n) (((chtype)(n) & 63u) << 16)
 #define PAIR_NUMBER(a) ((int)(((chtype)(a) & A_COLOR) >> 16))
 
-/* There is no alternate character set: these are the stand-ins of X/Open Curses Issue 7, 'Line Graphics'. */
-#define ACS_ULCORNER ((chtype)'+')
-#define ACS_LLCORNER ((chtype)'+')
-#define ACS_URCORNER ((chtype)'+')
-#define ACS_LRCORNER ((chtype)'+')
-#define ACS_RTEE ((chtype)'+')
-#define ACS_LTEE ((chtype)'+')
-#define ACS_BTEE ((chtype)'+')
-#define ACS_TTEE ((chtype)'+')
-#define ACS_HLINE ((chtype)'-')
-#define ACS_VLINE ((chtype)'|')
-#define ACS_PLUS ((chtype)'+')
-#define ACS_S1 ((chtype)'-')
-#define ACS_S9 ((chtype)'_')
-#define ACS_DIAMOND ((chtype)'+')
-#define ACS_CKBOARD ((chtype)':')
-#define ACS_DEGREE ((chtype)'\'')
-#define ACS_PLMINUS ((chtype)'#')
-#define ACS_BULLET ((chtype)'o')
-#define ACS_LARROW ((chtype)'<')
-#define ACS_RARROW ((chtype)'>')
-#define ACS_DARROW ((chtype)'v')
-#define ACS_UARROW ((chtype)'^')
-#define ACS_BOARD ((chtype)'#')
-#define ACS_LANTERN ((chtype)'#')
-#define ACS_BLOCK ((chtype)'#')
+/* Line drawing, by the letters of the VT100's graphic set. acs_map has the ASCII stand-ins of X/Open Curses Issue 7,
+   'Line Graphics'. */
+#define HUTTAVEL_ACS(letter) (acs_map[(unsigned char)(letter)])
+#define ACS_ULCORNER HUTTAVEL_ACS('l')
+#define ACS_LLCORNER HUTTAVEL_ACS('m')
+#define ACS_URCORNER HUTTAVEL_ACS('k')
+#define ACS_LRCORNER HUTTAVEL_ACS('j')
+#define ACS_RTEE HUTTAVEL_ACS('u')
+#define ACS_LTEE HUTTAVEL_ACS('t')
+#define ACS_BTEE HUTTAVEL_ACS('v')
+#define ACS_TTEE HUTTAVEL_ACS('w')
+#define ACS_HLINE HUTTAVEL_ACS('q')
+#define ACS_VLINE HUTTAVEL_ACS('x')
+#define ACS_PLUS HUTTAVEL_ACS('n')
+#define ACS_S1 HUTTAVEL_ACS('o')
+#define ACS_S3 HUTTAVEL_ACS('p')
+#define ACS_S7 HUTTAVEL_ACS('r')
+#define ACS_S9 HUTTAVEL_ACS('s')
+#define ACS_DIAMOND HUTTAVEL_ACS('`')
+#define ACS_CKBOARD HUTTAVEL_ACS('a')
+#define ACS_DEGREE HUTTAVEL_ACS('f')
+#define ACS_PLMINUS HUTTAVEL_ACS('g')
+#define ACS_BULLET HUTTAVEL_ACS('~')
+#define ACS_LARROW HUTTAVEL_ACS(',')
+#define ACS_RARROW HUTTAVEL_ACS('+')
+#define ACS_DARROW HUTTAVEL_ACS('.')
+#define ACS_UARROW HUTTAVEL_ACS('-')
+#define ACS_BOARD HUTTAVEL_ACS('h')
+#define ACS_LANTERN HUTTAVEL_ACS('i')
+#define ACS_BLOCK HUTTAVEL_ACS('0')
+#define ACS_LEQUAL HUTTAVEL_ACS('y')
+#define ACS_GEQUAL HUTTAVEL_ACS('z')
+#define ACS_PI HUTTAVEL_ACS('{')
+#define ACS_NEQUAL HUTTAVEL_ACS('|')
+#define ACS_STERLING HUTTAVEL_ACS('}')
+/* The same by their four arms, from the top clockwise: S is a single line, B is blank. */
+#define ACS_BSSB ACS_ULCORNER
+#define ACS_SSBB ACS_LLCORNER
+#define ACS_BBSS ACS_URCORNER
+#define ACS_SBBS ACS_LRCORNER
+#define ACS_SBSS ACS_RTEE
+#define ACS_SSSB ACS_LTEE
+#define ACS_SSBS ACS_BTEE
+#define ACS_BSSS ACS_TTEE
+#define ACS_BSBS ACS_HLINE
+#define ACS_SBSB ACS_VLINE
+#define ACS_SSSS ACS_PLUS
 
 /* A key is KEY_MIN and the position of its capability among the strings of a compiled entry, as term(5) orders them;
    function keys are in a row of their own. KEY_BREAK, KEY_SRESET and KEY_RESET have no capability, and never come. */

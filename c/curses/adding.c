@@ -35,12 +35,12 @@ static int add_character(WINDOW *window, chtype character, int count)
     return stayed ? ERR : answer(fault);
 }
 
-int waddch(WINDOW *window, const chtype character)
+/* Adds a character, in a window. */
+static int add_one(WINDOW *window, chtype character)
 {
     int count;
 
-    if (!window)
-        return ERR;
+    character = drawn_in(window, character);
     if (byte_of(character) != '\t')
         return add_character(window, character, 1);
     /* A tab that ends in its line is blanks with the window's attributes; those of the library's tab have none. */
@@ -50,18 +50,24 @@ int waddch(WINDOW *window, const chtype character)
     return add_character(window, (character & A_ATTRIBUTES) | ' ', count);
 }
 
+int waddch(WINDOW *window, const chtype character)
+{
+    return window ? changed(window, add_one(window, character)) : ERR;
+}
+
 int wechochar(WINDOW *window, const chtype character)
 {
     return waddch(window, character) == ERR ? ERR : wrefresh(window);
 }
 
-/* How many characters of a text lie side by side before the end of the window's line, its last place left out. */
+/* How many characters of a text can be written together: those that lie side by side before the end of the window's
+   line, its last place left out, where they are written as they are. */
 static size_t side_by_side(const WINDOW *window, const char *text, size_t length)
 {
-    int room = window->columns - 1 - getcurx(window);
+    int room = window->is_alternate ? 0 : window->columns - 1 - getcurx(window);
     size_t most = room > 0 ? (size_t)room : 0, count = 0;
 
-    while (count < most && count < length && text[count] >= ' ' && text[count] <= '~')
+    while (count < most && count < length && is_printable((uint8_t)text[count]))
         count++;
     return count;
 }
@@ -76,7 +82,7 @@ static int add_bytes(WINDOW *window, const char *text, size_t length)
             if (huttavel_add_text(handle_of(window), window->number, (const uint8_t *)text, count, NULL) != HUTTAVEL_OK)
                 return ERR;
         } else {
-            if (waddch(window, (unsigned char)*text) == ERR)
+            if (add_one(window, (unsigned char)*text) == ERR)
                 return ERR;
             count = 1;
         }
@@ -98,7 +104,7 @@ static size_t length_of(const char *text, int most)
 
 int waddnstr(WINDOW *window, const char *text, int most)
 {
-    return window && text ? add_bytes(window, text, length_of(text, most)) : ERR;
+    return window && text ? changed(window, add_bytes(window, text, length_of(text, most))) : ERR;
 }
 
 int waddstr(WINDOW *window, const char *text)
@@ -106,27 +112,32 @@ int waddstr(WINDOW *window, const char *text)
     return waddnstr(window, text, -1);
 }
 
-int winsch(WINDOW *window, chtype character)
+/* Inserts a character in a window. */
+static int insert_one(WINDOW *window, chtype character)
 {
     uint32_t fault;
 
-    if (!window)
-        return ERR;
+    character = drawn_in(window, character);
     WITH_PAIR(window, character, fault,
               huttavel_insert_byte(handle_of(window), window->number, byte_of(character), attrs_of(character)));
     return answer(fault);
 }
 
+int winsch(WINDOW *window, chtype character)
+{
+    return window ? changed(window, insert_one(window, character)) : ERR;
+}
+
 int winsnstr(WINDOW *window, const char *text, int most)
 {
     size_t length;
+    int done = OK;
 
     if (!window || !text)
         return ERR;
-    for (length = length_of(text, most); length > 0; length--)
-        if (winsch(window, (unsigned char)text[length - 1]) == ERR)
-            return ERR;
-    return OK;
+    for (length = length_of(text, most); length > 0 && done == OK; length--)
+        done = insert_one(window, (unsigned char)text[length - 1]);
+    return changed(window, done);
 }
 
 int winsstr(WINDOW *window, const char *text)
@@ -157,12 +168,18 @@ static chtype or_default(chtype character, chtype otherwise)
 
 int whline(WINDOW *window, chtype character, int count)
 {
-    return window ? draw_line(huttavel_line_across, window, or_default(character, ACS_HLINE), count) : ERR;
+    if (!window)
+        return ERR;
+    character = or_default(drawn_in(window, character), ACS_HLINE);
+    return changed(window, draw_line(huttavel_line_across, window, character, count));
 }
 
 int wvline(WINDOW *window, chtype character, int count)
 {
-    return window ? draw_line(huttavel_line_down, window, or_default(character, ACS_VLINE), count) : ERR;
+    if (!window)
+        return ERR;
+    character = or_default(drawn_in(window, character), ACS_VLINE);
+    return changed(window, draw_line(huttavel_line_down, window, character, count));
 }
 
 /* Draws a border piece by piece, each with its attributes. The cursor stays. */
@@ -194,10 +211,9 @@ static int draw_border(WINDOW *window, const chtype pieces[8])
 int wborder(WINDOW *window, chtype left, chtype right, chtype top, chtype bottom, chtype top_left, chtype top_right,
             chtype bottom_left, chtype bottom_right)
 {
-    const chtype pieces[8] = {or_default(left, ACS_VLINE),        or_default(right, ACS_VLINE),
-                              or_default(top, ACS_HLINE),         or_default(bottom, ACS_HLINE),
-                              or_default(top_left, ACS_ULCORNER), or_default(top_right, ACS_URCORNER),
-                              or_default(bottom_left, ACS_LLCORNER), or_default(bottom_right, ACS_LRCORNER)};
+    const chtype defaults[8] = {ACS_VLINE,    ACS_VLINE,    ACS_HLINE,    ACS_HLINE,
+                                ACS_ULCORNER, ACS_URCORNER, ACS_LLCORNER, ACS_LRCORNER};
+    chtype pieces[8] = {left, right, top, bottom, top_left, top_right, bottom_left, bottom_right};
     uint8_t bytes[8];
     chtype all = 0;
     int n;
@@ -205,10 +221,12 @@ int wborder(WINDOW *window, chtype left, chtype right, chtype top, chtype bottom
     if (!window || is_shown(window))
         return ERR;
     for (n = 0; n < 8; n++) {
+        pieces[n] = or_default(drawn_in(window, pieces[n]), defaults[n]);
         bytes[n] = byte_of(pieces[n]);
         all |= pieces[n] & A_ATTRIBUTES;
     }
-    return all ? draw_border(window, pieces) : answer(huttavel_border(handle_of(window), window->number, bytes));
+    return changed(window, all ? draw_border(window, pieces)
+                               : answer(huttavel_border(handle_of(window), window->number, bytes)));
 }
 
 int box(WINDOW *window, chtype vertical, chtype horizontal)

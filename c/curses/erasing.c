@@ -4,34 +4,34 @@ int werase(WINDOW *window)
 {
     if (window)
         window->has_moved = true;
-    return answer(huttavel_erase(handle_of(window), number_of(window)));
+    return changed(window, answer(huttavel_erase(handle_of(window), number_of(window))));
 }
 
 int wclear(WINDOW *window)
 {
     if (window)
         window->has_moved = true;
-    return answer(huttavel_clear(handle_of(window), number_of(window)));
+    return changed(window, answer(huttavel_clear(handle_of(window), number_of(window))));
 }
 
 int wclrtoeol(WINDOW *window)
 {
-    return answer(huttavel_clear_to_eol(handle_of(window), number_of(window)));
+    return changed(window, answer(huttavel_clear_to_eol(handle_of(window), number_of(window))));
 }
 
 int wclrtobot(WINDOW *window)
 {
-    return answer(huttavel_clear_to_bottom(handle_of(window), number_of(window)));
+    return changed(window, answer(huttavel_clear_to_bottom(handle_of(window), number_of(window))));
 }
 
 int wdelch(WINDOW *window)
 {
-    return answer(huttavel_delete_byte(handle_of(window), number_of(window)));
+    return changed(window, answer(huttavel_delete_byte(handle_of(window), number_of(window))));
 }
 
 int winsdelln(WINDOW *window, int count)
 {
-    return answer(huttavel_insert_delete_lines(handle_of(window), number_of(window), count));
+    return changed(window, answer(huttavel_insert_delete_lines(handle_of(window), number_of(window), count)));
 }
 
 int winsertln(WINDOW *window)
@@ -46,7 +46,7 @@ int wdeleteln(WINDOW *window)
 
 int wscrl(WINDOW *window, int count)
 {
-    return answer(huttavel_scroll(handle_of(window), number_of(window), count));
+    return changed(window, answer(huttavel_scroll(handle_of(window), number_of(window), count)));
 }
 
 int scroll(WINDOW *window)

@@ -184,14 +184,14 @@ int overlay(const WINDOW *source, WINDOW *target)
 {
     if (!source || !target || source->screen != target->screen)
         return ERR;
-    return answer(huttavel_overlay(handle_of(source), source->number, target->number));
+    return changed(target, answer(huttavel_overlay(handle_of(source), source->number, target->number)));
 }
 
 int overwrite(const WINDOW *source, WINDOW *target)
 {
     if (!source || !target || source->screen != target->screen)
         return ERR;
-    return answer(huttavel_overwrite(handle_of(source), source->number, target->number));
+    return changed(target, answer(huttavel_overwrite(handle_of(source), source->number, target->number)));
 }
 
 int copywin(const WINDOW *source, WINDOW *target, int row, int column, int top, int left, int bottom, int right,
@@ -199,6 +199,7 @@ int copywin(const WINDOW *source, WINDOW *target, int row, int column, int top, 
 {
     if (!source || !target || source->screen != target->screen)
         return ERR;
-    return answer(huttavel_copy(handle_of(source), source->number, target->number, (uint32_t)row, (uint32_t)column,
-                                (uint32_t)top, (uint32_t)left, (uint32_t)bottom, (uint32_t)right, overlaid != 0));
+    return changed(target, answer(huttavel_copy(handle_of(source), source->number, target->number, (uint32_t)row,
+                                                (uint32_t)column, (uint32_t)top, (uint32_t)left, (uint32_t)bottom,
+                                                (uint32_t)right, overlaid != 0)));
 }

@@ -9,10 +9,69 @@
 /* The greatest number of rows and columns of a screen. */
 #define LARGEST 500
 
+/* The greatest number of lines that ripoffline() takes off, and of labels. */
+#define RIPPED 5
+#define LABELS 8
+
+/* How many columns a label has at most. */
+#define LABEL_WIDTH 8
+
+/* How many mouse events wait for getmouse(). */
+#define EVENTS 8
+
+/* The longest text of a key. A report of the mouse is shorter. */
+#define LONGEST_KEY 64
+
+/* The length of ttytype. */
+#define TYPE_LENGTH 256
+
 /* Bytes of memory, and how many of them there are. */
 struct text {
     uint8_t *bytes;
     size_t length;
+};
+
+/* A text of the keyboard that define_key() made a key. */
+struct definition {
+    struct definition *next;
+    int key;
+    bool is_off;               /* keyok() */
+    size_t length;
+    char text[LONGEST_KEY];
+};
+
+/* Bytes of the keyboard that were read and are no key yet. */
+struct reading {
+    uint8_t held[LONGEST_KEY]; /* they may become a defined key, or a report of the mouse */
+    size_t held_count;
+    size_t in_handle;          /* how many the handle was given whose keys were not taken yet */
+    const char *spelled;       /* what is left of the text of a key that keyok() turned off; NULL without */
+    bool is_idle;              /* no byte came for a while: what is held waits for no more */
+    bool is_undecided;         /* bytes may wait for more, until `decided_at` */
+    long long decided_at;
+};
+
+/* The mouse. A press may wait for its release: then both are a click. */
+struct mouse {
+    mmask_t mask;              /* mousemask() */
+    int interval;              /* mouseinterval() */
+    MEVENT events[EVENTS];     /* for getmouse(), the newest last */
+    int count;
+    int pressed;               /* the button whose press waits, or 0 */
+    MEVENT press;
+    long long clicked_until;   /* when it is too late for a click */
+};
+
+/* The soft labels, if slk_init() asked for them: the line is NULL otherwise. */
+struct labels {
+    WINDOW *line;
+    int format;                /* of slk_init() */
+    bool is_drawn;             /* slk_noutrefresh() was called */
+    bool is_hidden;            /* slk_clear() */
+    struct {
+        char text[LABEL_WIDTH + 1];
+        int justify;
+    } all[LABELS];
 };
 
 struct huttavel_curses_window {
@@ -24,7 +83,13 @@ struct huttavel_curses_window {
     int parent_row, parent_column; /* where it begins in its parent; -1 without one */
     uint8_t attrs;             /* what bytes are written with */
     uint32_t pair;
+    bool is_alternate;         /* bytes are written with A_ALTCHARSET */
+    int ripped;                /* ripoffline(): 1 is the topmost line, 2 the next; -1 is the lowest; 0 otherwise */
+    bool is_immediate;         /* immedok() */
+    bool is_synced;            /* syncok() */
     bool is_pad;
+    bool has_part;             /* of a pad: a part of it was copied to the virtual screen */
+    int part[6];               /* what pnoutrefresh() was told last */
     bool has_moved;            /* the cursor was moved since the window was copied last */
     bool is_keypad;
     bool is_untimed;           /* notimeout() */
@@ -40,7 +105,9 @@ struct huttavel_curses_screen {
     WINDOW *windows;           /* all but curscr, the first made first */
     WINDOW *standard, *shown;  /* stdscr and curscr */
     WINDOW *whole;             /* a window over the whole screen that nothing is written on, or NULL */
-    int rows, columns;
+    int rows, columns;         /* without the lines that are taken off */
+    int above, below;          /* how many lines are taken off the top, and the bottom */
+    struct labels labels;
     int colors, pairs;         /* COLORS, COLOR_PAIRS: 0 before start_color() */
     struct termios shell, program, saved;
     bool is_terminal;          /* whether `shell` could be read */
@@ -53,6 +120,7 @@ struct huttavel_curses_screen {
     long long decided_at;
     struct text waiting;       /* where bytes are copied that wait */
     bool is_transmitting;      /* the terminal's keypad transmits: `smkx` was sent */
+    bool is_reporting;         /* the terminal reports its mouse */
     /* What signal handlers read, made before it is needed: the texts of `smcup`, `rmcup`, `smkx` and `rmkx`, and what
        turns attributes off and moves the cursor to the last line. */
     struct text enter, leave, transmit, local, plain;

@@ -1,26 +1,4 @@
-/* Settings of windows: how they are updated and scrolled, what bytes are written with, backgrounds, colours. */
-
-/* The parts of a chtype. */
-static uint8_t byte_of(chtype character)
-{
-    return (uint8_t)(character & A_CHARTEXT);
-}
-
-static uint8_t attrs_of(chtype character)
-{
-    return (uint8_t)(character >> 8 & 0x7f);
-}
-
-static uint32_t pair_of(chtype character)
-{
-    return (uint32_t)PAIR_NUMBER(character);
-}
-
-/* A cell as a chtype. */
-static chtype character_of(huttavel_cell cell)
-{
-    return (chtype)cell.byte | (chtype)cell.attrs << 8 | (chtype)cell.pair << 16;
-}
+/* Settings of windows: how they are updated and scrolled, what bytes are written with, backgrounds. */
 
 int clearok(WINDOW *window, bool on)
 {
@@ -116,21 +94,31 @@ int wattr_on(WINDOW *window, attr_t attrs, void *options)
     uint32_t pair = pair_of(attrs);
 
     (void)options;
-    return window ? set_pen(window, window->attrs | attrs_of(attrs), pair ? pair : window->pair) : ERR;
+    if (!window || set_pen(window, window->attrs | attrs_of(attrs), pair ? pair : window->pair) == ERR)
+        return ERR;
+    if (attrs & A_ALTCHARSET)
+        window->is_alternate = true;
+    return OK;
 }
 
 int wattr_off(WINDOW *window, attr_t attrs, void *options)
 {
     (void)options;
-    if (!window)
+    if (!window ||
+        set_pen(window, (uint8_t)(window->attrs & ~attrs_of(attrs)), pair_of(attrs) ? 0 : window->pair) == ERR)
         return ERR;
-    return set_pen(window, (uint8_t)(window->attrs & ~attrs_of(attrs)), pair_of(attrs) ? 0 : window->pair);
+    if (attrs & A_ALTCHARSET)
+        window->is_alternate = false;
+    return OK;
 }
 
 int wattr_set(WINDOW *window, attr_t attrs, short pair, void *options)
 {
     (void)options;
-    return pair < 0 ? ERR : set_pen(window, attrs_of(attrs), (uint32_t)pair);
+    if (pair < 0 || set_pen(window, attrs_of(attrs), (uint32_t)pair) == ERR)
+        return ERR;
+    window->is_alternate = (attrs & A_ALTCHARSET) != 0;
+    return OK;
 }
 
 int wattr_get(WINDOW *window, attr_t *attrs, short *pair, void *options)
@@ -139,7 +127,7 @@ int wattr_get(WINDOW *window, attr_t *attrs, short *pair, void *options)
     if (!window)
         return ERR;
     if (attrs)
-        *attrs = (attr_t)window->attrs << 8 | COLOR_PAIR(window->pair);
+        *attrs = (attr_t)window->attrs << 8 | COLOR_PAIR(window->pair) | (window->is_alternate ? A_ALTCHARSET : 0);
     if (pair)
         *pair = (short)window->pair;
     return OK;
@@ -180,14 +168,15 @@ int wstandend(WINDOW *window)
 static int set_background(uint32_t (*set)(huttavel *, uint32_t, uint8_t, uint8_t, uint32_t), WINDOW *window,
                           chtype background)
 {
-    uint8_t byte = byte_of(background) ? byte_of(background) : ' ';
+    chtype character = drawn(byte_of(background) ? background : background | ' ');
 
-    return answer(set(handle_of(window), number_of(window), byte, attrs_of(background), pair_of(background)));
+    return answer(set(handle_of(window), number_of(window), byte_of(character), attrs_of(character),
+                      pair_of(character)));
 }
 
 int wbkgd(WINDOW *window, chtype background)
 {
-    return set_background(huttavel_change_background, window, background);
+    return changed(window, set_background(huttavel_change_background, window, background));
 }
 
 void wbkgdset(WINDOW *window, chtype background)

@@ -1,0 +1,27 @@
+/* What follows a change of a window by itself: immedok(), syncok(). */
+
+/* Comes after each call that changes cells of a window, and gives the call's answer. */
+static int changed(WINDOW *window, int done)
+{
+    if (!window || is_shown(window))
+        return done;
+    if (window->is_synced)
+        wsyncup(window);
+    if (window->is_immediate && !window->is_pad)
+        wrefresh(window);
+    return done;
+}
+
+void immedok(WINDOW *window, bool on)
+{
+    if (window)
+        window->is_immediate = on;
+}
+
+int syncok(WINDOW *window, bool on)
+{
+    if (!window)
+        return ERR;
+    window->is_synced = on;
+    return OK;
+}
