@@ -32,6 +32,7 @@
 #include "curses/adding.c"
 #include "curses/erasing.c"
 #include "curses/reading.c"
+#include "curses/cells.c"
 #include "curses/opening.c"
 #include "curses/resizing.c"
 #include "curses/keyboard.c"

@@ -174,6 +174,7 @@ int wnoutrefresh(WINDOW *window);
 int doupdate(void);
 int prefresh(WINDOW *pad, int row, int column, int top, int left, int bottom, int right);
 int pnoutrefresh(WINDOW *pad, int row, int column, int top, int left, int bottom, int right);
+int pechochar(WINDOW *pad, const chtype character);
 int redrawwin(WINDOW *window);
 int wredrawln(WINDOW *window, int first, int count);
 int touchwin(WINDOW *window);
@@ -189,8 +190,13 @@ int overlay(const WINDOW *source, WINDOW *target);
 int overwrite(const WINDOW *source, WINDOW *target);
 int copywin(const WINDOW *source, WINDOW *target, int row, int column, int top, int left, int bottom, int right,
             int overlaid);
+void huttavel_curses_cursor(int *row, int *column);
+int huttavel_curses_set_cursor(int row, int column);
+#define getsyx(row, column) huttavel_curses_cursor(&(row), &(column))
+#define setsyx(row, column) huttavel_curses_set_cursor((row), (column))
 
 /* Attributes and backgrounds. */
+int getattrs(const WINDOW *window);
 int attron(int attrs);
 int attroff(int attrs);
 int attrset(int attrs);
@@ -235,6 +241,18 @@ int addnstr(const char *text, int most);
 int waddnstr(WINDOW *window, const char *text, int most);
 int mvaddnstr(int row, int column, const char *text, int most);
 int mvwaddnstr(WINDOW *window, int row, int column, const char *text, int most);
+int addchstr(const chtype *characters);
+int waddchstr(WINDOW *window, const chtype *characters);
+int mvaddchstr(int row, int column, const chtype *characters);
+int mvwaddchstr(WINDOW *window, int row, int column, const chtype *characters);
+int addchnstr(const chtype *characters, int most);
+int waddchnstr(WINDOW *window, const chtype *characters, int most);
+int mvaddchnstr(int row, int column, const chtype *characters, int most);
+int mvwaddchnstr(WINDOW *window, int row, int column, const chtype *characters, int most);
+int chgat(int count, attr_t attrs, short pair, const void *options);
+int wchgat(WINDOW *window, int count, attr_t attrs, short pair, const void *options);
+int mvchgat(int row, int column, int count, attr_t attrs, short pair, const void *options);
+int mvwchgat(WINDOW *window, int row, int column, int count, attr_t attrs, short pair, const void *options);
 int insch(chtype character);
 int winsch(WINDOW *window, chtype character);
 int mvinsch(int row, int column, chtype character);

@@ -30,6 +30,14 @@ static chtype character_of(huttavel_cell cell)
     return (chtype)cell.byte | (chtype)cell.attrs << 8 | (chtype)cell.pair << 16;
 }
 
+/* A chtype as a cell. */
+static huttavel_cell cell_of(chtype character)
+{
+    huttavel_cell cell = {byte_of(character), attrs_of(character), (uint8_t)pair_of(character)};
+
+    return cell;
+}
+
 /* Whether a cell can hold a byte. */
 static bool is_printable(uint8_t byte)
 {

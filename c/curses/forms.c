@@ -34,6 +34,8 @@
 FORMS1(int, addch, const chtype)
 FORMS1(int, addstr, const char *)
 FORMS2(int, addnstr, const char *)
+FORMS1(int, addchstr, const chtype *)
+FORMS2(int, addchnstr, const chtype *)
 FORMS1(int, insch, chtype)
 FORMS1(int, insstr, const char *)
 FORMS2(int, insnstr, const char *)
@@ -48,6 +50,13 @@ FORMS2(int, innstr, char *)
 FORMS0(int, getch)
 FORMS1(int, getstr, char *)
 FORMS2(int, getnstr, char *)
+
+STANDARD(int, chgat, (int count, attr_t attrs, short pair, const void *options), stdscr, count, attrs, pair, options)
+MOVED(int, chgat, (int row, int column, int count, attr_t attrs, short pair, const void *options), stdscr, count, attrs,
+      pair, options)
+MOVED_IN_WINDOW(int, chgat,
+                (WINDOW * window, int row, int column, int count, attr_t attrs, short pair, const void *options), window,
+                count, attrs, pair, options)
 
 STANDARD(int, move, (int row, int column), stdscr, row, column)
 STANDARD(int, refresh, (void), stdscr)

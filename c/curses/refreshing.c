@@ -84,6 +84,9 @@ int wrefresh(WINDOW *window)
 /* Copies a part of a pad. What is outside the pad is left out, and places before its first count as the first. */
 int pnoutrefresh(WINDOW *pad, int row, int column, int top, int left, int bottom, int right)
 {
+    const int part[6] = {row, column, top, left, bottom, right};
+    int above = pad ? pad->screen->above : 0;
+
     if (!pad || !pad->is_pad)
         return ERR;
     row = row < 0 ? 0 : row;
@@ -96,8 +99,13 @@ int pnoutrefresh(WINDOW *pad, int row, int column, int top, int left, int bottom
         bottom = top + pad->rows - 1 - row;
     if (right - left > pad->columns - 1 - column)
         right = left + pad->columns - 1 - column;
-    return answer(huttavel_pad_noutrefresh(handle_of(pad), pad->number, (uint32_t)row, (uint32_t)column, (uint32_t)top,
-                                           (uint32_t)left, (uint32_t)bottom, (uint32_t)right));
+    if (bottom >= pad->screen->rows ||
+        huttavel_pad_noutrefresh(handle_of(pad), pad->number, (uint32_t)row, (uint32_t)column, (uint32_t)(top + above),
+                                 (uint32_t)left, (uint32_t)(bottom + above), (uint32_t)right) != HUTTAVEL_OK)
+        return ERR;
+    memcpy(pad->part, part, sizeof part);
+    pad->has_part = true;
+    return OK;
 }
 
 int prefresh(WINDOW *pad, int row, int column, int top, int left, int bottom, int right)
@@ -105,6 +113,43 @@ int prefresh(WINDOW *pad, int row, int column, int top, int left, int bottom, in
     if (pnoutrefresh(pad, row, column, top, left, bottom, right) == ERR)
         return ERR;
     return update(pad->screen);
+}
+
+/* Adds a character to a pad, and copies and updates the part of it that was copied last. ERR if none was. */
+int pechochar(WINDOW *pad, const chtype character)
+{
+    const int *part = pad ? pad->part : NULL;
+
+    if (!pad || !pad->has_part || waddch(pad, character) == ERR)
+        return ERR;
+    return prefresh(pad, part[0], part[1], part[2], part[3], part[4], part[5]);
+}
+
+/* What getsyx() calls: where the next update leaves the terminal's cursor, -1 and -1 if it may be anywhere. */
+void huttavel_curses_cursor(int *row, int *column)
+{
+    uint32_t first, second;
+
+    *row = *column = -1;
+    if (current && huttavel_wanted_cursor(&current->handle, &first, &second) == HUTTAVEL_OK) {
+        *row = (int)first;
+        *column = (int)second;
+    }
+}
+
+/* What setsyx() calls. Copying a window of which no line is touched changes the place of the cursor and nothing else. */
+int huttavel_curses_set_cursor(int row, int column)
+{
+    WINDOW *window = current ? whole_window(current) : NULL;
+    bool is_anywhere = row == -1 && column == -1;
+    int done;
+
+    if (!window || untouchwin(window) == ERR || (!is_anywhere && wmove(window, row, column) == ERR))
+        return ERR;
+    huttavel_leave_ok(handle_of(window), window->number, is_anywhere);
+    done = wnoutrefresh(window);
+    huttavel_leave_ok(handle_of(window), window->number, false);
+    return done;
 }
 
 /* Moves the terminal's cursor now. The place where it was is known, so the first two numbers are not looked at; what

@@ -133,6 +133,13 @@ int wattr_get(WINDOW *window, attr_t *attrs, short *pair, void *options)
     return OK;
 }
 
+int getattrs(const WINDOW *window)
+{
+    attr_t attrs = A_NORMAL;
+
+    return wattr_get((WINDOW *)window, &attrs, NULL, NULL) == ERR ? ERR : (int)attrs;
+}
+
 int wattron(WINDOW *window, int attrs)
 {
     return wattr_on(window, (attr_t)attrs, NULL);

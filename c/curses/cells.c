@@ -1,0 +1,128 @@
+/* Calls that write cells as they are: without the window's attributes and background, and the cursor stays. */
+
+/* How many cells are written at a time. */
+#define PIECE 128
+
+/* What is put aside of a window meanwhile. */
+struct aside {
+    huttavel_cell background;
+    uint32_t row, column;
+};
+
+static void begin_cells(WINDOW *window, struct aside *aside)
+{
+    huttavel *handle = handle_of(window);
+
+    huttavel_background(handle, window->number, &aside->background);
+    huttavel_cursor(handle, window->number, &aside->row, &aside->column);
+    huttavel_set_background(handle, window->number, ' ', 0, 0);
+}
+
+static void end_cells(WINDOW *window, const struct aside *aside)
+{
+    huttavel *handle = handle_of(window);
+    const huttavel_cell *background = &aside->background;
+
+    huttavel_set_background(handle, window->number, background->byte, background->attrs, background->pair);
+    huttavel_attr_set(handle, window->number, window->attrs);
+    huttavel_color_set(handle, window->number, window->pair);
+    huttavel_move_cursor(handle, window->number, aside->row, aside->column);
+}
+
+/* Writes cells side by side that have the same attributes and pair. The last place of a line is written as a line of
+   length 1, after which no next line is begun. */
+static void put_alike(WINDOW *window, int row, int column, const huttavel_cell *cells, int count)
+{
+    huttavel *handle = handle_of(window);
+    int inner = column + count < window->columns ? count : count - 1, n;
+    uint8_t bytes[PIECE];
+
+    for (n = 0; n < count; n++)
+        bytes[n] = cells[n].byte;
+    huttavel_attr_set(handle, window->number, cells->attrs);
+    huttavel_color_set(handle, window->number, cells->pair);
+    huttavel_move_cursor(handle, window->number, (uint32_t)row, (uint32_t)column);
+    huttavel_add_text(handle, window->number, bytes, (size_t)inner, NULL);
+    if (inner < count)
+        huttavel_line_across(handle, window->number, bytes[inner], 1);
+}
+
+/* Writes at most PIECE cells, of bytes 32 to 126, side by side in a line that has room for them. */
+static void put_cells(WINDOW *window, int row, int column, const huttavel_cell *cells, int count)
+{
+    while (count > 0) {
+        int alike = 1;
+
+        while (alike < count && cells[alike].attrs == cells->attrs && cells[alike].pair == cells->pair)
+            alike++;
+        put_alike(window, row, column, cells, alike);
+        column += alike;
+        cells += alike;
+        count -= alike;
+    }
+}
+
+/* How many of the characters are written, where there is room for so many; -1 if no cell can hold one of them. They end
+   before one whose byte is 0. */
+static int characters_in(const chtype *characters, int most)
+{
+    int count;
+
+    for (count = 0; count < most && byte_of(characters[count]); count++)
+        if (!is_printable(byte_of(drawn(characters[count]))))
+            return -1;
+    return count;
+}
+
+int waddchnstr(WINDOW *window, const chtype *characters, int most)
+{
+    struct aside aside;
+    huttavel_cell cells[PIECE];
+    int count, done, n;
+
+    if (!window || !characters || is_shown(window))
+        return ERR;
+    count = window->columns - getcurx(window);
+    count = characters_in(characters, most < 0 || most > count ? count : most);
+    if (count < 0)
+        return ERR;
+    begin_cells(window, &aside);
+    for (done = 0; done < count; done += n) {
+        for (n = 0; n < PIECE && done + n < count; n++)
+            cells[n] = cell_of(drawn(characters[done + n]));
+        put_cells(window, (int)aside.row, (int)aside.column + done, cells, n);
+    }
+    end_cells(window, &aside);
+    return changed(window, OK);
+}
+
+int waddchstr(WINDOW *window, const chtype *characters)
+{
+    return waddchnstr(window, characters, -1);
+}
+
+/* Gives cells from the cursor on other attributes and another pair. Their bytes stay. */
+int wchgat(WINDOW *window, int count, attr_t attrs, short pair, const void *options)
+{
+    struct aside aside;
+    huttavel_cell cells[PIECE];
+    int room, done, n;
+
+    (void)options;
+    if (!window || is_shown(window) || pair < 0 || pair > 63)
+        return ERR;
+    room = window->columns - getcurx(window);
+    if (count < 0 || count > room)
+        count = room;
+    begin_cells(window, &aside);
+    for (done = 0; done < count; done += n) {
+        for (n = 0; n < PIECE && done + n < count; n++) {
+            cell_at(window, (int)aside.row, (int)aside.column + done + n, &cells[n]);
+            cells[n].attrs = attrs_of(attrs);
+            cells[n].pair = (uint8_t)pair;
+        }
+        put_cells(window, (int)aside.row, (int)aside.column + done, cells, n);
+    }
+    end_cells(window, &aside);
+    return changed(window, OK);
+}
