@@ -28,6 +28,7 @@
 #include "curses/windows.c"
 #include "curses/changes.c"
 #include "curses/settings.c"
+#include "curses/colours.c"
 #include "curses/refreshing.c"
 #include "curses/adding.c"
 #include "curses/erasing.c"

@@ -130,6 +130,8 @@ bool has_colors(void);
 bool can_change_color(void);
 int init_pair(short pair, short foreground, short background);
 int pair_content(short pair, short *foreground, short *background);
+int init_color(short color, short red, short green, short blue);
+int color_content(short color, short *red, short *green, short *blue);
 
 /* Making and moving windows. */
 WINDOW *newwin(int rows, int columns, int row, int column);

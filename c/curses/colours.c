@@ -1,0 +1,86 @@
+/* Colours, and the attributes that the terminal shows. */
+
+bool has_colors(void)
+{
+    bool colours = false;
+
+    return current && huttavel_has_colours(&current->handle, &colours) == HUTTAVEL_OK && colours;
+}
+
+bool can_change_color(void)
+{
+    return false;
+}
+
+int start_color(void)
+{
+    if (!has_colors())
+        return ERR;
+    COLORS = current->colors = 8;
+    COLOR_PAIRS = current->pairs = 64;
+    return OK;
+}
+
+int init_pair(short pair, short foreground, short background)
+{
+    if (!current || pair < 0 || foreground < 0 || background < 0)
+        return ERR;
+    return answer(huttavel_set_pair(&current->handle, (uint32_t)pair, (uint32_t)foreground, (uint32_t)background));
+}
+
+/* Pair 0 has the terminal's own colours, whatever they are: they count as white on black. */
+int pair_content(short pair, short *foreground, short *background)
+{
+    uint32_t first = COLOR_WHITE, second = COLOR_BLACK;
+
+    if (!current || pair < 0)
+        return ERR;
+    if (pair > 0 && huttavel_pair_colours(&current->handle, (uint32_t)pair, &first, &second) != HUTTAVEL_OK)
+        return ERR;
+    if (foreground)
+        *foreground = (short)first;
+    if (background)
+        *background = (short)second;
+    return OK;
+}
+
+/* Always ERR: colours are not changed here, as can_change_color() says. */
+int init_color(short color, short red, short green, short blue)
+{
+    (void)color;
+    (void)red;
+    (void)green;
+    (void)blue;
+    return ERR;
+}
+
+/* The parts of a colour, in thousandths: red, green and blue are the bits of its number. */
+int color_content(short color, short *red, short *green, short *blue)
+{
+    short *parts[3];
+    int n;
+
+    if (!has_colors() || color < 0 || color > 7)
+        return ERR;
+    parts[0] = red;
+    parts[1] = green;
+    parts[2] = blue;
+    for (n = 0; n < 3; n++)
+        if (parts[n])
+            *parts[n] = color >> n & 1 ? 680 : 0;
+    return OK;
+}
+
+chtype termattrs(void)
+{
+    uint8_t attrs = 0;
+
+    if (!current || huttavel_shown_attrs(&current->handle, &attrs) != HUTTAVEL_OK)
+        return A_NORMAL;
+    return (chtype)attrs << 8;
+}
+
+attr_t term_attrs(void)
+{
+    return termattrs();
+}
