@@ -34,6 +34,7 @@
 #include "curses/erasing.c"
 #include "curses/reading.c"
 #include "curses/cells.c"
+#include "curses/sizes.c"
 #include "curses/opening.c"
 #include "curses/resizing.c"
 #include "curses/keyboard.c"

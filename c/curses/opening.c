@@ -1,31 +1,5 @@
 /* Opening, choosing and closing screens. */
 
-/* A size that the environment says, or 0. */
-static uint32_t size_in(const char *variable)
-{
-    const char *text = getenv(variable);
-    long size = text ? strtol(text, NULL, 10) : 0;
-
-    return size > 0 ? (uint32_t)(size > LARGEST ? LARGEST : size) : 0;
-}
-
-/* The terminal's size: that of LINES and COLUMNS, or else the line's; 0 and 0 if neither says one. */
-static void ask_size(const SCREEN *screen, uint32_t *rows, uint32_t *columns)
-{
-    struct winsize size;
-
-    *rows = size_in("LINES");
-    *columns = size_in("COLUMNS");
-    if (ioctl(screen->output, TIOCGWINSZ, &size) == 0 && size.ws_row > 0 && size.ws_col > 0) {
-        if (!*rows)
-            *rows = size.ws_row > LARGEST ? LARGEST : size.ws_row;
-        if (!*columns)
-            *columns = size.ws_col > LARGEST ? LARGEST : size.ws_col;
-    }
-    if (!*rows || !*columns)
-        *rows = *columns = 0;
-}
-
 /* Opens a handle on the screen's entry, without the strings which are sent here. A terminal whose size nothing says has
    24 rows of 80 columns. */
 static uint32_t open_handle(const SCREEN *screen, huttavel *handle, uint32_t rows, uint32_t columns)
@@ -140,6 +114,20 @@ static SCREEN *made_screen(const char *type, int output, int input, const char *
     return screen;
 }
 
+char ttytype[TYPE_LENGTH];
+
+/* Copies the names of a screen's terminal to ttytype, as many bytes as it has room for. */
+static void copy_names(const SCREEN *screen)
+{
+    size_t length = screen ? short_at(&screen->entry, 2) : 0;
+
+    if (length >= sizeof ttytype)
+        length = sizeof ttytype - 1;
+    memset(ttytype, 0, sizeof ttytype);
+    if (length > 0 && 12 + length <= screen->entry.length)
+        memcpy(ttytype, screen->entry.bytes + 12, length);
+}
+
 SCREEN *set_term(SCREEN *screen)
 {
     SCREEN *before = current;
@@ -153,6 +141,7 @@ SCREEN *set_term(SCREEN *screen)
     COLS = screen ? screen->columns : 0;
     COLORS = screen ? screen->colors : 0;
     COLOR_PAIRS = screen ? screen->pairs : 0;
+    copy_names(screen);
     return before;
 }
 
@@ -270,6 +259,21 @@ char *termname(void)
 char *longname(void)
 {
     return current ? current->description : NULL;
+}
+
+const char *curses_version(void)
+{
+    return "huttavel " HUTTAVEL_VERSION;
+}
+
+/* Whether capabilities that terminfo does not name may be read. None is. */
+int use_extended_names(bool on)
+{
+    static bool is_on = true;
+    bool before = is_on;
+
+    is_on = on;
+    return before;
 }
 
 bool has_ic(void)
