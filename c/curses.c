@@ -34,6 +34,8 @@
 #include "curses/erasing.c"
 #include "curses/reading.c"
 #include "curses/cells.c"
+#include "curses/ripped.c"
+#include "curses/labels.c"
 #include "curses/sizes.c"
 #include "curses/opening.c"
 #include "curses/resizing.c"

@@ -78,6 +78,10 @@ void nofilter(void);
 void use_env(bool on);
 void use_tioctl(bool on);
 int use_extended_names(bool on);
+int ripoffline(int line, int (*init)(WINDOW *window, int columns));
+int resizeterm(int rows, int columns);
+int resize_term(int rows, int columns);
+bool is_term_resized(int rows, int columns);
 int endwin(void);
 bool isendwin(void);
 char *termname(void);
@@ -129,6 +133,24 @@ int ungetch(int key);
 int flushinp(void);
 char *keyname(int key);
 char *unctrl(chtype character);
+
+/* Soft labels. */
+int slk_init(int format);
+int slk_set(int number, const char *text, int justify);
+char *slk_label(int number);
+int slk_refresh(void);
+int slk_noutrefresh(void);
+int slk_clear(void);
+int slk_restore(void);
+int slk_touch(void);
+int slk_attron(const chtype attrs);
+int slk_attroff(const chtype attrs);
+int slk_attrset(const chtype attrs);
+int slk_attr_on(const attr_t attrs, void *options);
+int slk_attr_off(const attr_t attrs, void *options);
+int slk_attr_set(const attr_t attrs, short pair, void *options);
+attr_t slk_attr(void);
+int slk_color(short pair);
 
 /* Colours. */
 int start_color(void);

@@ -79,7 +79,7 @@ static bool make_windows(SCREEN *screen)
     screen->standard = kept_window(standard, HUTTAVEL_OK);
     shown->rows = screen->rows = standard->rows;
     shown->columns = screen->columns = standard->columns;
-    return true;
+    return take_lines_off(screen);
 }
 
 /* A screen that is not in use yet; NULL, and why, if the entry makes none. */
@@ -183,6 +183,7 @@ static SCREEN *opened_screen(const char *type, FILE *output, FILE *input, const 
     screens = screen;
     set_term(screen);
     handle_signals();
+    begin_lines(screen);
     return screen;
 }
 

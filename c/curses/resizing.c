@@ -23,11 +23,17 @@ struct plan {
     struct span rows, columns;
 };
 
+/* The plan of a window on a screen of this size. Rows of a window of its own count from the first of stdscr. */
 static struct plan plan_of(const WINDOW *window, const struct plan *parent, int rows, int columns)
 {
+    const SCREEN *screen = window->screen;
+    int left = rows - screen->above - screen->below;
     struct plan plan = {{0, window->rows}, {0, window->columns}};
 
-    if (window->parent) {
+    if (window->ripped) {
+        plan.rows.begin = ripped_row(window->ripped, rows) - screen->above;
+        plan.columns.length = columns;
+    } else if (window->parent) {
         plan.rows.begin = window->parent_row;
         plan.columns.begin = window->parent_column;
         plan.rows = fitted(plan.rows, window->parent->rows, parent->rows.length);
@@ -35,8 +41,8 @@ static struct plan plan_of(const WINDOW *window, const struct plan *parent, int 
     } else if (!window->is_pad) {
         plan.rows.begin = getbegy(window);
         plan.columns.begin = getbegx(window);
-        plan.rows = fitted(plan.rows, window->screen->rows, rows);
-        plan.columns = fitted(plan.columns, window->screen->columns, columns);
+        plan.rows = fitted(plan.rows, screen->rows, left);
+        plan.columns = fitted(plan.columns, screen->columns, columns);
     }
     return plan;
 }
@@ -99,7 +105,7 @@ static uint32_t make_again(const WINDOW *window, huttavel *to, uint32_t parent, 
         return (window->is_pad ? huttavel_sub_pad : huttavel_derive)(to, parent, rows, columns, row, column, made);
     if (window->is_pad)
         return huttavel_new_pad(to, rows, columns, made);
-    return huttavel_new_window(to, rows, columns, row, column, made);
+    return huttavel_new_window(to, rows, columns, row + (uint32_t)window->screen->above, column, made);
 }
 
 /* The numbers and plans of a screen's windows in the other handle, in the order of the list. */
@@ -176,6 +182,18 @@ static void replace_plain(SCREEN *screen, struct text plain)
     free(before.bytes);
 }
 
+/* Copies the lines that are taken off to the virtual screen, with the labels as they fit now. */
+static void show_ripped(SCREEN *screen)
+{
+    WINDOW *window;
+
+    if (screen->labels.is_drawn)
+        draw_labels(&screen->labels);
+    for (window = screen->windows; window; window = window->next)
+        if (window->ripped)
+            wnoutrefresh(window);
+}
+
 /* Puts the other handle in the screen's place. */
 static void take_over(SCREEN *screen, huttavel to, const struct again *all, int rows, int columns)
 {
@@ -184,7 +202,8 @@ static void take_over(SCREEN *screen, huttavel to, const struct again *all, int 
 
     huttavel_close(&screen->handle);
     screen->handle = to;
-    screen->rows = screen->shown->rows = rows;
+    screen->shown->rows = rows;
+    screen->rows = rows - screen->above - screen->below;
     screen->columns = screen->shown->columns = columns;
     for (window = screen->windows; window; window = window->next, index++) {
         window->number = all[index].number;
@@ -195,8 +214,8 @@ static void take_over(SCREEN *screen, huttavel to, const struct again *all, int 
     free(screen->whole);
     screen->whole = NULL;
     if (screen == current) {
-        LINES = rows;
-        COLS = columns;
+        LINES = screen->rows;
+        COLS = screen->columns;
     }
 }
 
@@ -214,34 +233,76 @@ static uint32_t copy_picture(SCREEN *screen, huttavel *to, int rows, int columns
     return huttavel_delete(to, number);
 }
 
-/* Gives a screen the size that its terminal has now, if that is another one, and memory does not run out. */
-static void resize(SCREEN *screen)
+/* Whether a screen has another size than this. */
+static bool is_other_size(const SCREEN *screen, int rows, int columns)
+{
+    return rows != screen->shown->rows || columns != screen->shown->columns;
+}
+
+/* Gives a screen another size. ERR, and all stays, if it leaves no row for stdscr or memory runs out. */
+static int resize_to(SCREEN *screen, int rows, int columns)
 {
     huttavel to = HUTTAVEL_CLOSED_HANDLE;
-    uint32_t rows, columns;
     size_t count = 0;
     const WINDOW *window;
     struct again *all;
     struct text plain = {NULL, 0};
+    bool is_done = false;
 
-    screen->is_resized = 0;
-    ask_size(screen, &rows, &columns);
-    if (!rows || ((int)rows == screen->rows && (int)columns == screen->columns))
-        return;
+    if (rows <= screen->above + screen->below || columns <= 0 || rows > LARGEST || columns > LARGEST)
+        return ERR;
     for (window = screen->windows; window; window = window->next)
         count++;
     all = calloc(count + 1, sizeof *all);
-    if (all && write_waiting(screen) == OK && open_handle(screen, &to, rows, columns) == HUTTAVEL_OK)
+    if (all && write_waiting(screen) == OK &&
+        open_handle(screen, &to, (uint32_t)rows, (uint32_t)columns) == HUTTAVEL_OK)
         plain = plain_text(&to);
-    if (plain.bytes && copy_picture(screen, &to, (int)rows, (int)columns) == HUTTAVEL_OK &&
-        make_all_again(screen, &to, all, (int)rows, (int)columns) == HUTTAVEL_OK) {
+    if (plain.bytes && copy_picture(screen, &to, rows, columns) == HUTTAVEL_OK &&
+        make_all_again(screen, &to, all, rows, columns) == HUTTAVEL_OK) {
         copy_pairs(screen, &to);
         replace_plain(screen, plain);
-        take_over(screen, to, all, (int)rows, (int)columns);
-        screen->has_new_size = true;
+        take_over(screen, to, all, rows, columns);
+        show_ripped(screen);
+        is_done = true;
     } else {
         huttavel_close(&to);
         free(plain.bytes);
     }
     free(all);
+    return is_done ? OK : ERR;
+}
+
+/* Gives a screen the size that its terminal has now. */
+static void resize(SCREEN *screen)
+{
+    uint32_t rows, columns;
+
+    screen->is_resized = 0;
+    ask_size(screen, &rows, &columns);
+    if (rows && is_other_size(screen, (int)rows, (int)columns) && resize_to(screen, (int)rows, (int)columns) == OK)
+        screen->has_new_size = true;
+}
+
+bool is_term_resized(int rows, int columns)
+{
+    return current && rows > 0 && columns > 0 && is_other_size(current, rows, columns);
+}
+
+int resize_term(int rows, int columns)
+{
+    if (!current || rows <= 0 || columns <= 0)
+        return ERR;
+    return is_other_size(current, rows, columns) ? resize_to(current, rows, columns) : OK;
+}
+
+/* The same, and the next key is KEY_RESIZE if the size is another one. */
+int resizeterm(int rows, int columns)
+{
+    bool is_other = is_term_resized(rows, columns);
+
+    if (resize_term(rows, columns) == ERR)
+        return ERR;
+    if (is_other)
+        current->has_new_size = true;
+    return OK;
 }

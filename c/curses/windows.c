@@ -41,17 +41,23 @@ static WINDOW *kept_window(WINDOW *window, uint32_t fault)
     return window;
 }
 
-WINDOW *newwin(int rows, int columns, int row, int column)
+/* A window at a row and a column of the screen, with the lines that are taken off; NULL if it cannot be made. */
+static WINDOW *new_window(SCREEN *screen, int rows, int columns, int row, int column)
 {
-    WINDOW *window;
+    WINDOW *window = spare_window(screen);
 
-    if (!current || rows < 0 || columns < 0 || row < 0 || column < 0)
-        return NULL;
-    window = spare_window(current);
     if (!window)
         return NULL;
-    return kept_window(window, huttavel_new_window(&current->handle, (uint32_t)rows, (uint32_t)columns, (uint32_t)row,
+    return kept_window(window, huttavel_new_window(&screen->handle, (uint32_t)rows, (uint32_t)columns, (uint32_t)row,
                                                    (uint32_t)column, &window->number));
+}
+
+WINDOW *newwin(int rows, int columns, int row, int column)
+{
+    if (!current || rows < 0 || columns < 0 || row < 0 || column < 0 || row >= current->rows ||
+        rows > current->rows - row)
+        return NULL;
+    return new_window(current, rows ? rows : current->rows - row, columns, row + current->above, column);
 }
 
 WINDOW *newpad(int rows, int columns)
@@ -109,7 +115,8 @@ int delwin(WINDOW *window)
 {
     WINDOW **place;
 
-    if (!window || is_shown(window) || huttavel_delete(handle_of(window), window->number) != HUTTAVEL_OK)
+    if (!window || is_shown(window) || window->ripped ||
+        huttavel_delete(handle_of(window), window->number) != HUTTAVEL_OK)
         return ERR;
     for (place = &window->screen->windows; *place != window; place = &(*place)->next)
         ;
@@ -122,7 +129,10 @@ int delwin(WINDOW *window)
 
 int mvwin(WINDOW *window, int row, int column)
 {
-    return answer(huttavel_move_window(handle_of(window), number_of(window), (uint32_t)row, (uint32_t)column));
+    if (!window || is_shown(window) || window->ripped || row < 0 || row > window->screen->rows - window->rows)
+        return ERR;
+    return answer(huttavel_move_window(handle_of(window), window->number, (uint32_t)(row + window->screen->above),
+                                       (uint32_t)column));
 }
 
 int mvderwin(WINDOW *window, int row, int column)
@@ -157,9 +167,17 @@ int getcurx(const WINDOW *window)
     return number_read(huttavel_cursor, window, true);
 }
 
-int getbegy(const WINDOW *window)
+/* The row of the screen where a window begins, with the lines that are taken off; ERR of a pad. */
+static int screen_row_of(const WINDOW *window)
 {
     return is_shown(window) ? 0 : number_read(huttavel_origin, window, false);
+}
+
+int getbegy(const WINDOW *window)
+{
+    int row = screen_row_of(window);
+
+    return row == ERR || is_shown(window) ? row : row - window->screen->above;
 }
 
 int getbegx(const WINDOW *window)
@@ -230,6 +248,9 @@ WINDOW *dupwin(WINDOW *window)
     huttavel_is_leave_ok(handle_of(window), window->number, &is_on);
     leaveok(copy, is_on);
     wmove(copy, getcury(window), getcurx(window));
+    copy->is_alternate = window->is_alternate;
+    copy->is_immediate = window->is_immediate;
+    copy->is_synced = window->is_synced;
     copy->is_keypad = window->is_keypad;
     copy->is_untimed = window->is_untimed;
     copy->delay = window->delay;
