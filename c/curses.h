@@ -133,6 +133,22 @@ int ungetch(int key);
 int flushinp(void);
 char *keyname(int key);
 char *unctrl(chtype character);
+int has_key(int key);
+int keyok(int key, bool on);
+int define_key(const char *text, int key);
+int key_defined(const char *text);
+int set_escdelay(int milliseconds);
+int get_escdelay(void);
+
+/* The mouse. Places are on the screen, with the lines that ripoffline() takes off. */
+bool has_mouse(void);
+mmask_t mousemask(mmask_t mask, mmask_t *before);
+int mouseinterval(int milliseconds);
+int getmouse(MEVENT *event);
+int ungetmouse(MEVENT *event);
+bool wenclose(const WINDOW *window, int row, int column);
+bool wmouse_trafo(const WINDOW *window, int *row, int *column, bool to_screen);
+bool mouse_trafo(int *row, int *column, bool to_screen);
 
 /* Soft labels. */
 int slk_init(int format);

@@ -1,7 +1,7 @@
 /* The compiled entry of a terminal's name: where it is, and what the shim itself reads of it (terminfo(5), 'Fetching
    Compiled Descriptions'; term(5)). */
 
-/* The positions of the strings that are sent here and by no update, and of those that has_ic() and has_il() ask for. */
+/* The positions of the strings that are sent here and by no update, and of those that are asked for here. */
 enum {
     BELL = 1,
     CHANGE_REGION = 3,
@@ -17,7 +17,8 @@ enum {
     INSERT_LINE = 53,
     KEYPAD_LOCAL = 88,
     KEYPAD_TRANSMIT = 89,
-    INSERT_CHARACTERS = 108
+    INSERT_CHARACTERS = 108,
+    MOUSE_KEY = 355
 };
 
 /* The size of a file of an entry that is not read to its end. */

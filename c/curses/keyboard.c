@@ -1,29 +1,5 @@
 /* The keyboard: bytes are read one at a time, so that what a program reads by itself stays in the line. */
 
-/* The key of a capability's position. */
-static int key_of(uint32_t position)
-{
-    if (position >= HUTTAVEL_KEY_F11 && position <= HUTTAVEL_KEY_F63)
-        return KEY_F(11 + (int)(position - HUTTAVEL_KEY_F11));
-    if (position == HUTTAVEL_KEY_F0 || position == HUTTAVEL_KEY_F1)
-        return KEY_F((int)(position - HUTTAVEL_KEY_F0));
-    if (position == HUTTAVEL_KEY_F10)
-        return KEY_F(10);
-    if (position >= HUTTAVEL_KEY_F2 && position <= HUTTAVEL_KEY_F9)
-        return KEY_F(2 + (int)(position - HUTTAVEL_KEY_F2));
-    return KEY_MIN + (int)position;
-}
-
-/* Takes a key that was read; ERR if there is none. */
-static int queued_key(SCREEN *screen)
-{
-    huttavel_key key;
-
-    if (huttavel_next_key(&screen->handle, &key) != HUTTAVEL_OK)
-        return ERR;
-    return key.kind == HUTTAVEL_KEY_NAMED ? key_of(key.code) : (int)key.code;
-}
-
 /* The shorter of two times to wait; -1 is for ever. */
 static int shorter(int one, int other)
 {
@@ -51,14 +27,6 @@ static int wait_for_byte(const SCREEN *screen, int milliseconds)
     return poll(&asked, 1, milliseconds);
 }
 
-/* Gives a byte to the keys of the screen. */
-static void decide(SCREEN *screen, uint8_t byte)
-{
-    huttavel_key_bytes(&screen->handle, &byte, 1, NULL);
-    screen->is_undecided = true;
-    screen->decided_at = now() + ESCDELAY;
-}
-
 /* What others did to the terminal meanwhile: a new size is a key, and a terminal that was given back is repainted. */
 static int news(SCREEN *screen)
 {
@@ -74,22 +42,27 @@ static int news(SCREEN *screen)
 }
 
 /* Waits for a byte as long as `end` says, -1 for ever, and reads it. A byte without keypad() is a key at once;
-   otherwise it is given to the keys. ERR at the end of the input, or in time; KEY_MAX to go on. */
+   otherwise it is held. ERR at the end of the input, or in time; KEY_MAX to go on. */
 static int read_byte(WINDOW *window, long long end)
 {
     SCREEN *screen = window->screen;
-    bool is_short = screen->is_undecided && !window->is_untimed;
-    int wait = end < 0 ? -1 : left_until(end);
-    int found = wait_for_byte(screen, is_short ? shorter(wait, left_until(screen->decided_at)) : wait);
+    struct reading *reading = &screen->reading;
+    bool is_short = reading->is_undecided && !window->is_untimed;
+    int wait = end < 0 ? -1 : left_until(end), found;
     uint8_t byte;
     ssize_t count;
+
+    if (is_short)
+        wait = shorter(wait, left_until(reading->decided_at));
+    if (screen->mouse.pressed)
+        wait = shorter(wait, left_until(screen->mouse.clicked_until));
+    found = wait_for_byte(screen, wait);
 
     if (found < 0)
         return errno == EINTR ? KEY_MAX : ERR;
     if (found == 0) {
-        if (is_short && left_until(screen->decided_at) == 0) {
-            huttavel_key_idle(&screen->handle);
-            screen->is_undecided = false;
+        if (is_short && left_until(reading->decided_at) == 0) {
+            decide(reading);
             return KEY_MAX;
         }
         return end >= 0 && left_until(end) == 0 ? ERR : KEY_MAX;
@@ -101,7 +74,7 @@ static int read_byte(WINDOW *window, long long end)
         return ERR;
     if (!window->is_keypad)
         return byte;
-    decide(screen, byte);
+    hold(reading, byte);
     return KEY_MAX;
 }
 
@@ -116,11 +89,12 @@ static int next_key(WINDOW *window)
         int key = news(screen);
 
         if (key == ERR)
-            key = queued_key(screen);
+            key = late_press(screen);
         if (key == ERR)
-            key = read_byte(window, end);
-        else
+            key = decoded_key(screen);
+        if (key != ERR)
             return key;
+        key = read_byte(window, end);
         if (key != KEY_MAX)
             return key;
     }
@@ -161,9 +135,6 @@ int flushinp(void)
     if (current->is_terminal)
         tcflush(current->input, TCIFLUSH);
     current->pushed_count = 0;
-    huttavel_key_idle(&current->handle);
-    while (queued_key(current) != ERR)
-        ;
-    current->is_undecided = false;
+    forget_typed(current);
     return OK;
 }

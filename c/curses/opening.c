@@ -50,6 +50,7 @@ static void free_screen(SCREEN *screen)
         next = window->next;
         free(window);
     }
+    free_definitions(screen);
     huttavel_close(&screen->handle);
     free(screen->whole);
     free(screen->shown);
@@ -94,6 +95,7 @@ static SCREEN *made_screen(const char *type, int output, int input, const char *
     screen->input = input;
     screen->output = output;
     screen->visibility = 1;
+    screen->mouse.interval = CLICK_INTERVAL;
     screen->entry = find_entry(type);
     screen->name = calloc(strlen(type) + 1, 1);
     screen->waiting.bytes = malloc(4096);
@@ -221,6 +223,8 @@ int endwin(void)
         done = write_string(current, visibility_string(current, 1));
     huttavel_finish(&current->handle);
     if (current->is_transmitting && write_text(current, &current->local) == ERR)
+        done = ERR;
+    if (current->is_reporting && write_reporting(current, false) == ERR)
         done = ERR;
     if (write_text(current, &current->leave) == ERR)
         done = ERR;

@@ -127,6 +127,24 @@ static int set_transmitting(SCREEN *screen, bool on)
     return write_text(screen, on ? &screen->transmit : &screen->local);
 }
 
+/* What makes the terminal report the buttons of its mouse, in xterm's mode 1006, and what ends it. */
+static const char reports_on[] = "\033[?1000h\033[?1006h", reports_off[] = "\033[?1006l\033[?1000l";
+
+/* Writes one of the two after all that waits. */
+static int write_reporting(SCREEN *screen, bool on)
+{
+    return write_string(screen, on ? reports_on : reports_off);
+}
+
+/* Makes the terminal report its mouse or end that; after endwin(), from when it is taken over again. */
+static int set_reporting(SCREEN *screen, bool on)
+{
+    if (on == screen->is_reporting)
+        return OK;
+    screen->is_reporting = on;
+    return screen->has_ended ? OK : write_reporting(screen, on);
+}
+
 int beep(void)
 {
     const char *text = current ? string_of(current, BELL) : NULL;

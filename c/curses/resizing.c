@@ -205,6 +205,7 @@ static void take_over(SCREEN *screen, huttavel to, const struct again *all, int 
     screen->shown->rows = rows;
     screen->rows = rows - screen->above - screen->below;
     screen->columns = screen->shown->columns = columns;
+    screen->reading.in_handle = 0;
     for (window = screen->windows; window; window = window->next, index++) {
         window->number = all[index].number;
         window->parent_row = window->parent ? all[index].plan.rows.begin : -1;

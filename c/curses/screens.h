@@ -116,8 +116,10 @@ struct huttavel_curses_screen {
     int visibility;            /* curs_set() */
     int pushed[PUSHED];        /* ungetch() */
     int pushed_count;
-    bool is_undecided;         /* bytes of the keyboard may wait for more, until `decided_at` */
-    long long decided_at;
+    struct reading reading;
+    struct definition *definitions; /* define_key() */
+    bool is_off[KEY_MAX + 1];  /* the keys of the entry that keyok() turned off */
+    struct mouse mouse;
     struct text waiting;       /* where bytes are copied that wait */
     bool is_transmitting;      /* the terminal's keypad transmits: `smkx` was sent */
     bool is_reporting;         /* the terminal reports its mouse */

@@ -41,6 +41,8 @@ static void leave_terminal(const SCREEN *screen)
     write_marked(screen->output, screen->plain.bytes, screen->plain.length);
     if (screen->is_transmitting)
         write_marked(screen->output, screen->local.bytes, screen->local.length);
+    if (screen->is_reporting)
+        write_marked(screen->output, (const uint8_t *)reports_off, strlen(reports_off));
     write_marked(screen->output, screen->leave.bytes, screen->leave.length);
     if (screen->is_terminal)
         tcsetattr(screen->input, TCSADRAIN, &screen->shell);
@@ -54,6 +56,8 @@ static void enter_terminal(SCREEN *screen)
     write_marked(screen->output, screen->enter.bytes, screen->enter.length);
     if (screen->is_transmitting)
         write_marked(screen->output, screen->transmit.bytes, screen->transmit.length);
+    if (screen->is_reporting)
+        write_marked(screen->output, (const uint8_t *)reports_on, strlen(reports_on));
     if (screen->visibility != 1)
         write_visibility(screen, screen->visibility);
     screen->is_disturbed = 1;
