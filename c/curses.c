@@ -41,6 +41,8 @@
 #include "curses/sizes.c"
 #include "curses/opening.c"
 #include "curses/resizing.c"
+#include "curses/files.c"
+#include "curses/dumps.c"
 #include "curses/decoding.c"
 #include "curses/keyboard.c"
 #include "curses/keys.c"

@@ -188,6 +188,14 @@ int delwin(WINDOW *window);
 int mvwin(WINDOW *window, int row, int column);
 int mvderwin(WINDOW *window, int row, int column);
 
+/* Windows and screens in files. */
+int putwin(WINDOW *window, FILE *file);
+WINDOW *getwin(FILE *file);
+int scr_dump(const char *name);
+int scr_restore(const char *name);
+int scr_init(const char *name);
+int scr_set(const char *name);
+
 /* Places and sizes. */
 int getcury(const WINDOW *window);
 int getcurx(const WINDOW *window);
