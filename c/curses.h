@@ -5,14 +5,11 @@
  * call that waits for a key may be interrupted by a signal handler that makes calls of its own.
  *
  * LEFT OUT, so that a program which wants one of these fails when it is compiled, with the name:
- * - what the library has no counterpart for: A_ALTCHARSET, A_PROTECT, WA_HORIZONTAL and its kin; addchstr(), chgat()
- *   and their kin; init_color(), color_content(); immedok(), syncok(); the shifted keys KEY_SLEFT, KEY_SHOME and so on;
  * - all that is about wide characters: cchar_t, add_wch(), addwstr(), bkgrnd(), box_set(), border_set(), get_wch(),
- *   getcchar(), hline_set(), in_wch(), ins_wch(), setcchar(), unget_wch(), WACS_* and so on;
- * - scr_dump(), scr_init(), scr_restore(), scr_set(), getwin(), putwin(), getsyx(), setsyx(), filter(), ripoffline(),
- *   use_env(), pechochar(), the soft labels slk_*(), and the calls of term.h: setupterm(), tigetstr(), tparm(),
- *   tputs(), putp(), vidattr(), vidputs() and so on;
- * - what other libraries add: the mouse, panels, use_default_colors(), wresize(), resizeterm(), define_key() and so on.
+ *   getcchar(), hline_set(), in_wch(), ins_wch(), setcchar(), slk_wset(), unget_wch(), WACS_* and so on;
+ * - the calls of term.h: setupterm(), tigetstr(), tparm(), tputs(), putp(), vidattr(), vidputs() and so on;
+ * - what only ncurses has, but for the mouse, keys and sizes: wresize(), use_default_colors(), init_extended_pair(),
+ *   is_keypad(), is_scrollok() and their kin, wgetparent(), use_window(), newscr, TABSIZE and so on.
  */
 #ifndef HUTTAVEL_CURSES_H
 #define HUTTAVEL_CURSES_H
