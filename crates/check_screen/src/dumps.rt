@@ -32,8 +32,8 @@ pub fn dump_picture(picture: &Picture, bytes: &mut Buffer) {
         dump_cells(row_of(picture, row), bytes);
     }
     for pair in 1..64 {
-        let (foreground, background) = picture.pair(pair).unwrap_or((0, 0));
-        bytes.extend(&[foreground, background]);
+        let (foreground, background) = picture.pair_of(pair).unwrap_or((None, None));
+        bytes.extend(&[foreground.unwrap_or(u8::MAX), background.unwrap_or(u8::MAX)]);
     }
     add_wish(picture, bytes);
 }

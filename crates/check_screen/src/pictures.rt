@@ -3,14 +3,14 @@
 use crate::subjects::Subjects;
 use crate::terminals::add_size;
 use check_harness::answers::{
-    add_any, add_any_place, add_cell, add_place, add_text_of, add_word, read_cell,
+    add_any, add_any_place, add_cell, add_colour, add_place, add_text_of, add_word, read_cell,
 };
 use check_harness::buffers::Buffer;
 use check_harness::troubles::Trouble;
 use check_harness::words::{Line, Words};
 use scr_cells::{Cell, Picture};
 
-/// The lines `put R C B A P`, `put_row R C B A P`, `fill R C E B A P`, `wish R C`, `wish none`, and `set_pair P F G`,
+/// The lines `put R C B A P`, `put_row R C B A P`, `fill R C E B A P`, `wish R C`, `wish none`, `set_pair P F G`, and `set_pair_of P F G`,
 /// where a foreground and a background are set; and those that ask. `put_row` puts a blank after the cell, `fill` puts
 /// a cell in the columns from C up to E. Tells whether a line is one of them.
 pub fn answer_of_picture(subjects: &mut Subjects, line: &mut Line<'_>) -> Result<bool, Trouble> {
@@ -21,6 +21,7 @@ pub fn answer_of_picture(subjects: &mut Subjects, line: &mut Line<'_>) -> Result
         "put" | "put_row" | "fill" => put(picture, line.name, &mut line.words)?,
         "wish" => wish(picture, &mut line.words)?,
         "set_pair" => set_pair(picture, &mut line.words)?,
+        "set_pair_of" => set_pair_of(picture, &mut line.words)?,
         _ => return add_seen(picture, line),
     }
     add_word("Ok", &mut line.got);
@@ -45,6 +46,10 @@ pub fn add_seen(picture: &Picture, line: &mut Line<'_>) -> Result<bool, Trouble>
         },
         "pair" => add_any(picture.pair(words.number()), got, |(fore, back), got| {
             add_place(u32::from(fore), u32::from(back), got);
+        }),
+        "pair_of" => add_any(picture.pair_of(words.number()), got, |(fore, back), got| {
+            add_colour(fore, got);
+            add_colour(back, got);
         }),
         _ => return Ok(false),
     }
@@ -113,6 +118,28 @@ fn set_pair(picture: &mut Picture, words: &mut Words<'_>) -> Result<(), Trouble>
     }
     picture.set_pair(pair, foreground, background);
     Ok(())
+}
+
+fn set_pair_of(picture: &mut Picture, words: &mut Words<'_>) -> Result<(), Trouble> {
+    let pair = words.number();
+    let (foreground, background) = (colour(words)?, colour(words)?);
+    if pair == 0 || pair > 63 {
+        return Err(Trouble::Bad("no colours of a pair"));
+    }
+    picture.set_pair_of(pair, foreground, background);
+    Ok(())
+}
+
+// A colour, or `-` for the default one.
+fn colour(words: &mut Words<'_>) -> Result<Option<u8>, Trouble> {
+    if words.peek() == b"-".as_slice() {
+        let _dash = words.next();
+        return Ok(None);
+    }
+    match words.byte() {
+        colour if colour < 8 => Ok(Some(colour)),
+        _ => Err(Trouble::Bad("no colour")),
+    }
 }
 
 /// Adds where the cursor is wanted.

@@ -2,7 +2,7 @@
 //!
 //! The definitions are in `specs/Refreshing.antt` and in the crate `scr_virtual`.
 ghost use Rattle.std.specs.Prelude.{◌≡◌};
-ghost use Rattle.scr_virtual.specs.Pairs.{set_pair_call};
+ghost use Rattle.scr_virtual.specs.Pairs.{set_pair_call, set_pair_of_call};
 ghost use Rattle.scr_virtual.specs.Taking.{take_pad_call, take_window_call};
 ghost use Rattle.curses.specs.Refreshing.{OnBoth, OnTerminal, OnVirtual, lines_disturbed, redraw_lines_call, redraw_window_call, window_disturbed};
 
@@ -70,11 +70,23 @@ impl Screen {
     pub fn set_pair(&mut self, pair: u32, foreground: u32, background: u32) -> Result<(), WinFault>
         ensures { OnVirtual self.old self.new result (set_pair_call self.old.virtual pair foreground background) }
     {
+        self.set_pair_of(pair, Some(foreground), Some(background))
+    }
+
+    /// The same, where a colour that is `None` is the terminal's default.
+    pub fn set_pair_of(
+        &mut self,
+        pair: u32,
+        foreground: Option<u32>,
+        background: Option<u32>,
+    ) -> Result<(), WinFault>
+        ensures { OnVirtual self.old self.new result (set_pair_of_call self.old.virtual pair foreground background) }
+    {
         sizes_stay();
         ranges_hold_changes();
         up_to_date_laws();
         let _size = self.wanted.size();
-        self.wanted.set_pair(pair, foreground, background)
+        self.wanted.set_pair_of(pair, foreground, background)
     }
 
     /// Says that others wrote on the rows of the screen where a window is: the next update treats nothing there as

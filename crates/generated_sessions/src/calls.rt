@@ -87,10 +87,20 @@ fn on_screen(name: &str, by: &mut Words<'_>) -> Option<Call> {
         "redraw_window" => Call::RedrawWindow(win(by)),
         "redraw_lines" => Call::RedrawLines(win(by), by.number(), by.number()),
         "set_pair" => Call::SetPair(by.number(), by.number(), by.number()),
+        "set_pair_of" => Call::SetPairOf(by.number(), colour(by), colour(by)),
         "noutrefresh" => Call::Noutrefresh(win(by)),
         "pad_noutrefresh" => taking_pad(by),
         _ => return None,
     })
+}
+
+// The number of a colour, or `-` for the terminal's default.
+fn colour(by: &mut Words<'_>) -> Option<u32> {
+    if by.peek() == b"-".as_slice() {
+        let _dash = by.next();
+        return None;
+    }
+    Some(by.number())
 }
 
 // A part of a window that is copied to another: its first place there and here, and its last here.

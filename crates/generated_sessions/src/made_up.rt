@@ -12,7 +12,7 @@ use std::alloc::Global;
 // window's rows H or columns V, a small number N, a number E not much above the last but one, a count S with a sign, a
 // flag F, a byte B, attributes A, a colour pair P, one of the first Q, a colour K, some bytes X, words Z, and a graphic
 // byte G.
-static LINES: [(&str, u32); 62] = [
+static LINES: [(&str, u32); 64] = [
     ("add_text 0 Z", 30),
     ("add_text 0 X", 6),
     ("move_cursor 0 R C", 24),
@@ -24,6 +24,7 @@ static LINES: [(&str, u32); 62] = [
     ("clear_to_eol 0", 4),
     ("redraw_lines 0 R N", 6),
     ("set_pair N K K", 2),
+    ("set_pair_of N D D", 2),
     ("add_byte 1 B A", 4),
     ("add_byte 2 B A", 4),
     ("noutrefresh 0", 6),
@@ -74,6 +75,7 @@ static LINES: [(&str, u32); 62] = [
     ("window_touched W", 1),
     ("redraw_window W", 1),
     ("set_pair P K K", 1),
+    ("set_pair_of P D D", 1),
     ("pad_noutrefresh W N N H V E E", 1),
 ];
 
@@ -129,8 +131,18 @@ fn add_words(alloc: Global, screen: &Screen, line: &str, random: &mut Random, ma
         match word {
             "S" => add_number(i64::from(random.signed()), made),
             "X" | "Z" => add_bytes(alloc, word, random, made),
+            "D" => add_colour(random, made),
             _ => about.add_word(word, random, made),
         }
+    }
+}
+
+// Adds the number of a colour, or `-` for the terminal's default.
+fn add_colour(random: &mut Random, made: &mut Buffer) {
+    if random.below(3) == 0 {
+        add_word("-", made);
+    } else {
+        add_number(i64::from(random.below(9)), made);
     }
 }
 

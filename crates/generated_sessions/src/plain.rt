@@ -19,7 +19,7 @@ pub struct Plain {
     size: Size,
     places: Vec<Place>,
     // The foreground and the background of each colour pair.
-    pairs: Vec<(u32, u32)>,
+    pairs: Vec<(Option<u32>, Option<u32>)>,
     wish: Option<(u32, u32)>,
     // Which lines of the window that is copied next are touched. All of a pad are copied.
     touched: Vec<bool>,
@@ -43,7 +43,7 @@ impl Plain {
         Ok(Plain {
             size,
             places: vec![in alloc; (b' ', 0, 0); places]?,
-            pairs: vec![in alloc; (7, 0); 64]?,
+            pairs: vec![in alloc; (Some(7), Some(0)); 64]?,
             wish: None,
             touched: Vec::new(alloc),
         })
@@ -67,9 +67,10 @@ impl Plain {
     pub fn follow(&mut self, screen: &Screen, call: &Call) {
         match call {
             Call::SetPair(pair, foreground, background) => {
-                if let Some(there) = self.pairs.get_mut(*pair as usize) {
-                    *there = (*foreground, *background);
-                }
+                self.set_pair(*pair, (Some(*foreground), Some(*background)));
+            }
+            Call::SetPairOf(pair, foreground, background) => {
+                self.set_pair(*pair, (*foreground, *background));
             }
             Call::Noutrefresh(win) => {
                 if let Some(part) = window_part(screen, *win) {
@@ -107,6 +108,12 @@ impl Plain {
         } else {
             part.shown_at(window.cursor())
         };
+    }
+
+    fn set_pair(&mut self, pair: u32, colours: (Option<u32>, Option<u32>)) {
+        if let Some(there) = self.pairs.get_mut(pair as usize) {
+            *there = colours;
+        }
     }
 
     fn take_line(&mut self, line: &[Cell], part: Part, row: u32) {
@@ -159,9 +166,7 @@ impl Plain {
     fn is_seen(&self, emulated: &Emulated, profile: &Profile, look: Look, place: Place) -> bool {
         let (byte, attrs, pair) = place;
         let (foreground, background) = match self.pairs.get(pair as usize) {
-            Some((foreground, background)) if pair > 0 && profile.colours() => {
-                (Some(*foreground), Some(*background))
-            }
+            Some(colours) if pair > 0 && profile.colours() => *colours,
             _ => (None, None),
         };
         look.byte() == byte

@@ -1,5 +1,5 @@
 -- What is asked of a screen and of what the next update brings its terminal to.
-use Rattle.std.specs.Prelude.{ℕ, List, Option, Some, None, nat_le, ltb, ◌-◌, ◌&&◌, slice_index_or, if◌then◌else◌}
+use Rattle.std.specs.Prelude.{ℕ, List, Option, Some, None, nat_le, ltb, ◌-◌, ◌&&◌, ◌==◌, slice_index_or, if◌then◌else◌}
 use Rattle.scr_cells.specs.CellViews.{blank_cell}
 use Rattle.scr_cells.specs.Grids.{grid_at}
 use Rattle.scr_cells.specs.PictureViews.{PictureView}
@@ -12,9 +12,21 @@ abbrev pub nth_reply : Option Win → Reply
 nth_reply (Some win) = with_one win.0
 nth_reply None = refused 10
 
+-- The number of a colour; the terminal's default has the last of 32 bits.
+abbrev pub colour_number : Option ℕ → ℕ
+colour_number None = 4294967295
+colour_number (Some colour) = colour
+
+abbrev pub colour_numbers : Option ℕ × Option ℕ → ℕ × ℕ
+colour_numbers colours = (colour_number colours.0, colour_number colours.1)
+
+-- The colour that a number is given for.
+abbrev pub colour_given : ℕ → Option ℕ
+colour_given number = if number == 4294967295 then None else Some number
+
 -- The colours of a pair; pair 0 has the terminal's own.
-abbrev pub colours_of : List (ℕ × ℕ) → ℕ → Reply
-colours_of pairs pair = if nat_le 1 pair && nat_le pair 63 then with_two (slice_index_or pairs (pair - 1) (7, 0)) else refused 23
+abbrev pub colours_of : List (Option ℕ × Option ℕ) → ℕ → Reply
+colours_of pairs pair = if nat_le 1 pair && nat_le pair 63 then with_two (colour_numbers (slice_index_or pairs (pair - 1) (Some 7, Some 0))) else refused 23
 
 -- The cell at a place of the screen.
 abbrev pub wanted_reply : PictureView → ℕ → ℕ → Reply

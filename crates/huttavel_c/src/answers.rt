@@ -5,6 +5,9 @@ ghost use Rattle.huttavel_c.specs.Replies.{added_reply, done_number, made_reply,
 use crate::faults::window_number;
 use curses::{Added, Cell, Win, WinFault};
 
+/// The number of the terminal's default colour.
+pub(crate) const DEFAULT_COLOUR: u32 = u32::MAX;
+
 /// An error's number, 0 if there is none, and what the call gives. A number that the call does not give is 0, and all
 /// three are 0 if it was refused.
 #[repr(C)]

@@ -20,11 +20,11 @@ use Rattle.scr_cells.proofs.DifferenceLaws.{eight_places, none_differ}
 abbrev no_colour : Option ℕ
 no_colour = None
 
-colour_of : (colours : Bool) (pairs : List (ℕ × ℕ)) (pair : ℕ) → pair ≡ 0 → (no_colour ≡ (if colours then (pair_colours pairs pair).0 else None)) × (no_colour ≡ (if colours then (pair_colours pairs pair).1 else None))
+colour_of : (colours : Bool) (pairs : List (Option ℕ × Option ℕ)) (pair : ℕ) → pair ≡ 0 → (no_colour ≡ (if colours then (pair_colours pairs pair).0 else None)) × (no_colour ≡ (if colours then (pair_colours pairs pair).1 else None))
 colour_of true pairs pair none = (sym (ap (λ p. (pair_colours pairs p).0) none), sym (ap (λ p. (pair_colours pairs p).1) none))
 colour_of false pairs pair none = (refl, refl)
 
-seen_of : (shown n : ℕ) (colours : Bool) (pairs : List (ℕ × ℕ)) → n < 65536 → bit_and shown (n / 256 % 256) ≡ n / 256 % 256 → look_of n ≡ seen shown colours pairs (cell_of n)
+seen_of : (shown n : ℕ) (colours : Bool) (pairs : List (Option ℕ × Option ℕ)) → n < 65536 → bit_and shown (n / 256 % 256) ≡ n / 256 % 256 → look_of n ≡ seen shown colours pairs (cell_of n)
 seen_of shown n colours pairs few same =
     let pair : n / 65536 ≡ 0 = omega (arith, few) in
     let first : n / 256 / 256 % 16 ≡ 0 = omega (arith, few) in

@@ -1,5 +1,5 @@
 -- What a terminal shows in one place. ECMA-48, 'graphic rendition'.
-use Rattle.std.specs.Prelude.{ℕ, Bool, None, bit_and, List, map, if◌then◌else◌}
+use Rattle.std.specs.Prelude.{ℕ, Bool, Option, None, bit_and, List, map, if◌then◌else◌}
 use Rattle.scr_cells.specs.CellViews.{CellView, IsCharacter}
 use Rattle.scr_cells.specs.Grids.{grid_of}
 use Rattle.scr_cells.specs.PenViews.{PenView, IsPen, negative_pen, pair_colours, plain_pen}
@@ -24,7 +24,7 @@ blank_grid rows columns = grid_of rows columns (λ _ _. blank)
 
 -- The pen that a cell is shown with, on a terminal that shows these attributes, and colours or none: those of its
 -- attributes that are shown, and the colours of its pair.
-abbrev pub seen_pen : ℕ → Bool → List (ℕ × ℕ) → CellView → PenView
+abbrev pub seen_pen : ℕ → Bool → List (Option ℕ × Option ℕ) → CellView → PenView
 seen_pen shown colours pairs cell = record {
   attrs = bit_and shown cell.attrs;
   foreground = if colours then (pair_colours pairs cell.pair).0 else None;
@@ -32,7 +32,7 @@ seen_pen shown colours pairs cell = record {
 }
 
 -- What is seen of a cell there: its character, with that pen.
-abbrev pub seen : ℕ → Bool → List (ℕ × ℕ) → CellView → LookView
+abbrev pub seen : ℕ → Bool → List (Option ℕ × Option ℕ) → CellView → LookView
 seen shown colours pairs cell = record { byte = cell.byte; pen = seen_pen shown colours pairs cell }
 
 -- The negative of a look: reverse in place of standout.

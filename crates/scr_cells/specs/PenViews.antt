@@ -42,10 +42,9 @@ abbrev pub negative_pen : PenView → PenView
 negative_pen pen = record pen { attrs = negative_set pen.attrs }
 
 -- The colours of pairs 1 to 63 at first: white on black.
-unfoldable pub first_pairs : List (ℕ × ℕ)
-first_pairs = replicate 63 (7, 0)
+unfoldable pub first_pairs : List (Option ℕ × Option ℕ)
+first_pairs = replicate 63 (Some 7, Some 0)
 
 -- The foreground and background of a pair; pair 0 has the default colours.
-abbrev pub pair_colours : List (ℕ × ℕ) → ℕ → Option ℕ × Option ℕ
-pair_colours pairs pair =
-    if pair == 0 then (None, None) else (Some ((slice_index_or pairs (pair - 1) (7, 0)).0), Some ((slice_index_or pairs (pair - 1) (7, 0)).1))
+abbrev pub pair_colours : List (Option ℕ × Option ℕ) → ℕ → Option ℕ × Option ℕ
+pair_colours pairs pair = if pair == 0 then (None, None) else slice_index_or pairs (pair - 1) (Some 7, Some 0)

@@ -13,21 +13,21 @@ pub record IsSize (rows columns : ℕ) : Type 0 where
   pub few_columns : columns ≤ 500
 
 -- A size; the cells in rows from the top; the cursor wish, a row and a column where the cursor should be, if anywhere;
--- and the foreground and background of each pair from 1 on.
+-- and the foreground and background of each pair from 1 on; no colour means the terminal's default.
 pub record PictureView : Type 0 where
   pub rows : ℕ
   pub columns : ℕ
   pub lines : List (List CellView)
   pub wish : Option (ℕ × ℕ)
-  pub pairs : List (ℕ × ℕ)
+  pub pairs : List (Option ℕ × Option ℕ)
 
 -- The place is inside.
 abbrev pub IsPlace : ℕ → ℕ → ℕ × ℕ → Type 0
 IsPlace rows columns place = (place.0 < rows) × (place.1 < columns)
 
 -- The colours of a pair.
-abbrev pub AreColours : ℕ × ℕ → Type 0
-AreColours pair = IsColour pair.0 × IsColour pair.1
+abbrev pub AreColours : Option ℕ × Option ℕ → Type 0
+AreColours pair = IfSome pair.0 IsColour × IfSome pair.1 IsColour
 
 -- A valid picture: a cell in every place, the cursor wish inside, if there is one, and colours for pairs 1 to 63.
 pub record IsPicture (picture : PictureView) : Type 0 where

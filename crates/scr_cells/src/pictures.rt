@@ -17,8 +17,8 @@ use std::marker::Model;
 pub struct Picture {
     grid: Grid<Cell>,
     wish: Option<(u32, u32)>,
-    // The foreground and the background of each pair, from pair 1 on.
-    pairs: [(u8, u8); 63],
+    // The foreground and the background of each pair, from pair 1 on; `None` is the terminal's default.
+    pairs: [(Option<u8>, Option<u8>); 63],
 }
 
 impl Model for Picture {
@@ -102,11 +102,24 @@ impl Picture {
         self.wish = wish;
     }
 
-    /// The foreground and the background of a colour pair, each 0 to 7; `None` if the pair is not 1 to 63 (X/Open
-    /// Curses Issue 7, 'pair_content').
+    /// The foreground and the background of a colour pair, each 0 to 7; `None` if the pair is not 1 to 63, or one of its
+    /// colours is the terminal's default (X/Open Curses Issue 7, 'pair_content').
     pub fn pair(&self, pair: u32) -> Option<(u8, u8)>
-        ensures some { IsSome result ↔ (0 < pair × pair < 64) }
+        ensures some { IsSome result ↔ (pair < 64 × IsSome (pair_colours self.now.pairs pair).0 × IsSome (pair_colours self.now.pairs pair).1) }
         ensures colours { IfSome result (λ colours. pair_colours self.now.pairs pair ≡ (Some colours.0, Some colours.1)) }
+        ensures fits { IfSome result (λ colours. IsColour colours.0 × IsColour colours.1) }
+    {
+        match self.pair_of(pair) {
+            Some((Some(foreground), Some(background))) => Some((foreground, background)),
+            _ => None,
+        }
+    }
+
+    /// The foreground and the background of a colour pair, each 0 to 7, or `None` for the terminal's default; `None` if
+    /// the pair is not 1 to 63.
+    pub fn pair_of(&self, pair: u32) -> Option<(Option<u8>, Option<u8>)>
+        ensures some { IsSome result ↔ (0 < pair × pair < 64) }
+        ensures colours { IfSome result (λ colours. colours ≡ pair_colours self.now.pairs pair) }
         ensures fits { IfSome result AreColours }
     {
         if (1..=Cell::MOST_PAIR).contains(&pair) {
@@ -126,10 +139,10 @@ impl Picture {
         if cell.pair() == 0 || !colours {
             return pen;
         }
-        match self.pair(cell.pair()) {
-            Some((foreground, background)) => pen
-                .with_foreground(Some(foreground))
-                .with_background(Some(background)),
+        match self.pair_of(cell.pair()) {
+            Some((foreground, background)) => {
+                pen.with_foreground(foreground).with_background(background)
+            }
             None => pen,
         }
     }
@@ -141,6 +154,17 @@ impl Picture {
         requires pair { IsPair pair }
         requires foreground { IsColour foreground }
         requires background { IsColour background }
+        ensures { self.new ≡ record self.old { pairs = slice_set self.old.pairs (pair - 1) (Some foreground, Some background) } }
+    {
+        self.set_pair_of(pair, Some(foreground), Some(background));
+    }
+
+    /// Sets the foreground and the background of a colour pair. The pair is 1 to 63, and each colour 0 to 7, or `None`
+    /// for the terminal's default. Nothing else changes.
+    pub fn set_pair_of(&mut self, pair: u32, foreground: Option<u8>, background: Option<u8>)
+        requires some { 0 < pair }
+        requires pair { IsPair pair }
+        requires colours { AreColours (foreground, background) }
         ensures { self.new ≡ record self.old { pairs = slice_set self.old.pairs (pair - 1) (foreground, background) } }
     {
         self.pairs[pair as usize - 1] = (foreground, background);
@@ -149,12 +173,12 @@ impl Picture {
 
 // The colours of each pair at first, from pair 1 on: white on black.
 #[tactic(auto, unfolding(crate::specs::PenViews::first_pairs))]
-fn first_pairs() -> [(u8, u8); 63]
+fn first_pairs() -> [(Option<u8>, Option<u8>); 63]
     ensures value { result ≡ first_pairs }
     ensures len { length result ≡ 63 }
     ensures colours { All AreColours result }
 {
-    [(7, 0); 63]
+    [(Some(7), Some(0)); 63]
 }
 
 // What holds for every cell holds for each of these. The loop is for the proof alone, which learns what holds for a

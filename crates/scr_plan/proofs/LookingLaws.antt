@@ -426,14 +426,14 @@ one_place_more holds from column some last c low high = by (ltb c column) refl
     by false e = let here : column ≡ c = grind (arith, nat_tests) in subst holds here last
 
 -- cells with the same attributes and the same colour pair are seen with one pen
-pub alike_pens : (painter : Painter) (pairs : List (ℕ × ℕ)) (a b : CellView) → a.attrs ≡ b.attrs → a.pair ≡ b.pair → (painter_sees painter pairs a).pen ≡ (painter_sees painter pairs b).pen
+pub alike_pens : (painter : Painter) (pairs : List (Option ℕ × Option ℕ)) (a b : CellView) → a.attrs ≡ b.attrs → a.pair ≡ b.pair → (painter_sees painter pairs a).pen ≡ (painter_sees painter pairs b).pen
 alike_pens painter pairs a b attrs pair = λ i. (painter_sees painter pairs (record a { attrs = attrs i; pair = pair i })).pen
 
 -- what is seen in a place of a row, by the row's cells
 pub look_by : (painter : Painter) (picture : PictureView) (row c : ℕ) (cells : List CellView) → cells ≡ grid_row picture.lines row → painter_sees painter picture.pairs (get_or cells c blank_cell) ≡ painter_look painter picture (row, c)
 look_by painter picture row c cells are = ap (λ line. painter_sees painter picture.pairs (get_or line c blank_cell)) are
 
-pub alike_in : (painter : Painter) (pairs : List (ℕ × ℕ)) (cells : List CellView) (a b : ℕ) (one other : CellView) → one ≡ get_or cells a blank_cell → other ≡ get_or cells b blank_cell → one.attrs ≡ other.attrs → one.pair ≡ other.pair
+pub alike_in : (painter : Painter) (pairs : List (Option ℕ × Option ℕ)) (cells : List CellView) (a b : ℕ) (one other : CellView) → one ≡ get_or cells a blank_cell → other ≡ get_or cells b blank_cell → one.attrs ≡ other.attrs → one.pair ≡ other.pair
     → (painter_sees painter pairs (get_or cells b blank_cell)).pen ≡ (painter_sees painter pairs (get_or cells a blank_cell)).pen
 alike_in painter pairs cells a b one other is_one is_other attrs pair =
     sym (alike_pens painter pairs (get_or cells a blank_cell) (get_or cells b blank_cell) (ap (λ cell. cell.attrs) (sym is_one) ∙ attrs ∙ ap (λ cell. cell.attrs) is_other) (ap (λ cell. cell.pair) (sym is_one) ∙ pair ∙ ap (λ cell. cell.pair) is_other))

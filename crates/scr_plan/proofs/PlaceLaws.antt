@@ -161,16 +161,21 @@ cell_of (line ∷ lines) zero c each = cell_of_row line c (recursion_from_All Is
 cell_of (line ∷ lines) (suc r) c each = cell_of lines r c each.1
 
 -- the colours of a pair can be set, where colours are shown
-abbrev colours_unless : Bool → List (ℕ × ℕ) → ℕ → Option ℕ × Option ℕ
-colours_unless none pairs pair = if none then (None, None) else (Some ((get_or pairs (pair - 1) (7, 0)).0), Some ((get_or pairs (pair - 1) (7, 0)).1))
+abbrev colours_unless : Bool → List (Option ℕ × Option ℕ) → ℕ → Option ℕ × Option ℕ
+colours_unless none pairs pair = if none then (None, None) else get_or pairs (pair - 1) (Some 7, Some 0)
+
+colour_seen : (profile : ProfileView) (colour : Option ℕ) → IfSome colour IsColour → has_colours profile ≡ true → IfSome colour (IsSeen profile)
+colour_seen profile None is shown = tt
+colour_seen profile (Some colour) is shown = (is, shown)
 
 pair_seen : (profile : ProfileView) (picture : PictureView) → IsPicture picture → (pair : ℕ) → pair < 64 → has_colours profile ≡ true → (none : Bool) → (pair == 0) ≡ none
     → IfSome (colours_unless none picture.pairs pair).0 (IsSeen profile) × IfSome (colours_unless none picture.pairs pair).1 (IsSeen profile)
 pair_seen profile picture k pair small shown true e = (tt, tt)
 pair_seen profile picture k pair small shown false e =
     let inside : pair - 1 < 63 = grind (arith, nat_tests) in
-    let colours : AreColours (get_or picture.pairs (pair - 1) (7, 0)) = k.colours (pair - 1) (7, 0) (omega (arith, inside, k.all_pairs)) in
-    ((colours.0, shown), (colours.1, shown))
+    let pen : Option ℕ × Option ℕ = get_or picture.pairs (pair - 1) (Some 7, Some 0) in
+    let colours : AreColours pen = k.colours (pair - 1) (Some 7, Some 0) (omega (arith, inside, k.all_pairs)) in
+    (colour_seen profile pen.0 colours.0 shown, colour_seen profile pen.1 colours.1 shown)
 
 colours_seen : (profile : ProfileView) (picture : PictureView) → IsPicture picture → (pair : ℕ) → pair < 64 → (b : Bool) → has_colours profile ≡ b
     → IfSome (if b then (pair_colours picture.pairs pair).0 else None) (IsSeen profile) × IfSome (if b then (pair_colours picture.pairs pair).1 else None) (IsSeen profile)

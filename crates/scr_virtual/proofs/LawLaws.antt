@@ -1,5 +1,5 @@
 -- The laws of virtual screens.
-use Rattle.std.proofs.Common.{◌≡◌, ◌⊎◌, inl, inr, ℕ, Bool, true, false, ◌+◌, ◌-◌, ◌<◌, ◌≤◌, ◌==◌, ◌&&◌, ◌||◌, sym, ◌∙◌, ap, refl, arith, subst, List, length, get_or, cond, leb, ltb, replicate, None, Some, Result, Ok, Err}
+use Rattle.std.proofs.Common.{◌≡◌, ◌⊎◌, inl, inr, ℕ, Bool, true, false, ◌+◌, ◌-◌, ◌<◌, ◌≤◌, ◌==◌, ◌&&◌, ◌||◌, sym, ◌∙◌, ap, refl, arith, subst, List, length, get_or, cond, leb, ltb, replicate, None, Some, Option, Result, Ok, Err}
 use Rattle.std.specs.Prelude.{IfSome, min, max}
 use Rattle.std.proofs.lemmas.Bool.Decides.{nat_tests}
 use Rattle.std.proofs.lemmas.List.{get_or-replicate, get_or_past, length-replicate}
@@ -16,7 +16,7 @@ use Rattle.scr_windows.specs.Changes.{index_of, marked, on_window, with_window}
 use Rattle.scr_windows.specs.DeskViews.{DeskView, WindowView, window_at}
 use Rattle.scr_virtual.specs.declared.parts.Part.{Part}
 use Rattle.scr_virtual.specs.Laws.{HoldsChanges, IsOutside, OutsideStays, RangesHoldChanges, SameSizes, SizesStay, UntouchedChangesNothing, cell_at}
-use Rattle.scr_virtual.specs.Pairs.{set_pair_call, with_pair}
+use Rattle.scr_virtual.specs.Pairs.{is_no_colour, set_pair_of_call, with_pair}
 use Rattle.scr_virtual.specs.Taking.{columns_unlike, is_copied, on_ok, pad_part, part_at, part_call, part_cell, part_copied, part_taken, take_pad_call, take_window_call, taken, touched_line, window_part}
 use Rattle.scr_virtual.specs.Ranges.{AreRanges, IsRange, in_range, joined, joined_by, ranges_with}
 use Rattle.scr_virtual.specs.VirtualViews.{IsVirtual, VirtualView, marked_rows}
@@ -171,7 +171,7 @@ nothing_outside rows columns ranges r c many h b out =
     all_rows : (rows r : ℕ) → r < rows → (leb 0 r && ltb r (0 + rows)) ≡ true
     all_rows rows r h = grind (arith, nat_tests)
 
-pair_holds : (v : VirtualView) (pair foreground background : ℕ) → IsVirtual v → HoldsChanges v (with_pair v pair foreground background)
+pair_holds : (v : VirtualView) (pair : ℕ) (foreground background : Option ℕ) → IsVirtual v → HoldsChanges v (with_pair v pair foreground background)
 unfolding marked_rows
 pair_holds v pair foreground background is = record {
   changed = record {
@@ -198,11 +198,11 @@ either_of P true b x y z p q r = p
 either_of P false true x y z p q r = q
 either_of P false false x y z p q r = r
 
-setting_holds : (v : VirtualView) (pair foreground background : ℕ) → IsVirtual v → HoldsChanges v (set_pair_call v pair foreground background).0
-unfolding set_pair_call
+setting_holds : (v : VirtualView) (pair : ℕ) (foreground background : Option ℕ) → IsVirtual v → HoldsChanges v (set_pair_of_call v pair foreground background).0
+unfolding set_pair_of_call
 setting_holds v pair foreground background is =
     let P : VirtualView × Result (Unit {0}) WinFault → Type 0 = λ x. HoldsChanges v x.0 in
-    either_of P (pair == 0 || ltb 63 pair) (ltb 7 foreground || ltb 7 background) (v, Err BadPair) (v, Err BadColour) (with_pair v pair foreground background, Ok tt) (nothing_holds v) (nothing_holds v) (pair_holds v pair foreground background is)
+    either_of P (pair == 0 || ltb 63 pair) (is_no_colour foreground || is_no_colour background) (v, Err BadPair) (v, Err BadColour) (with_pair v pair foreground background, Ok tt) (nothing_holds v) (nothing_holds v) (pair_holds v pair foreground background is)
 
 window_holds : GridLaws CellView → (v : VirtualView) (desk : DeskView) (win : ℕ) → IsVirtual v → HoldsChanges v (take_window_call v desk win).0.0
 unfolding take_window_call
@@ -326,11 +326,11 @@ marked_sizes : (v : VirtualView) (desk : DeskView) (first n : ℕ) → SameSizes
 unfolding marked_rows
 marked_sizes v desk first n = record { rows = refl; columns = refl; desk_rows = refl; desk_columns = refl }
 
-pair_sizes : (v : VirtualView) (desk : DeskView) (pair foreground background : ℕ) → SameSizes (v, desk) ((set_pair_call v pair foreground background).0, desk)
-unfolding set_pair_call marked_rows
+pair_sizes : (v : VirtualView) (desk : DeskView) (pair : ℕ) (foreground background : Option ℕ) → SameSizes (v, desk) ((set_pair_of_call v pair foreground background).0, desk)
+unfolding set_pair_of_call marked_rows
 pair_sizes v desk pair foreground background =
     let P : VirtualView × Result (Unit {0}) WinFault → Type 0 = λ x. SameSizes (v, desk) (x.0, desk) in
-    either_of P (pair == 0 || ltb 63 pair) (ltb 7 foreground || ltb 7 background) (v, Err BadPair) (v, Err BadColour) (with_pair v pair foreground background, Ok tt) (same_sizes v desk) (same_sizes v desk)
+    either_of P (pair == 0 || ltb 63 pair) (is_no_colour foreground || is_no_colour background) (v, Err BadPair) (v, Err BadColour) (with_pair v pair foreground background, Ok tt) (same_sizes v desk) (same_sizes v desk)
     (record { rows = refl; columns = refl; desk_rows = refl; desk_columns = refl })
 
 pub keeping : SizesStay

@@ -7,7 +7,7 @@ use Rattle.scr_windows.specs.DeskViews.{DeskView, window_at}
 use Rattle.scr_windows.specs.Changes.{index_of}
 use Rattle.scr_virtual.specs.Ranges.{in_range}
 use Rattle.scr_virtual.specs.VirtualViews.{IsVirtual, VirtualView, altered_at, marked_rows, range_at, settled}
-use Rattle.scr_virtual.specs.Pairs.{set_pair_call}
+use Rattle.scr_virtual.specs.Pairs.{set_pair_of_call}
 use Rattle.scr_virtual.specs.Taking.{take_pad_call, take_window_call}
 
 -- The picture's cell in row r and column c.
@@ -33,7 +33,7 @@ pub record HoldsChanges (old new : VirtualView) : Type 0 where
 pub record RangesHoldChanges : Type 0 where
   pub window : (virtual : VirtualView) (desk : DeskView) (win : ℕ) → IsVirtual virtual → HoldsChanges virtual (take_window_call virtual desk win).0.0
   pub pad : (virtual : VirtualView) (desk : DeskView) (win row column top left bottom right : ℕ) → IsVirtual virtual → HoldsChanges virtual (take_pad_call virtual desk win row column top left bottom right).0.0
-  pub pair : (virtual : VirtualView) (pair foreground background : ℕ) → IsVirtual virtual → HoldsChanges virtual (set_pair_call virtual pair foreground background).0
+  pub pair : (virtual : VirtualView) (pair : ℕ) (foreground background : Option ℕ) → IsVirtual virtual → HoldsChanges virtual (set_pair_of_call virtual pair foreground background).0
   pub mark : (virtual : VirtualView) (row n : ℕ) → IsVirtual virtual → HoldsChanges virtual (marked_rows row n virtual)
   -- A settled screen has no ranges.
   pub settle : (virtual : VirtualView) (r : ℕ) → (range_at (settled virtual) r ≡ None) × (altered_at (settled virtual) r ≡ None)
@@ -67,5 +67,5 @@ pub record SameSizes (old new : VirtualView × DeskView) : Type 0 where
 pub record SizesStay : Type 0 where
   pub window : (virtual : VirtualView) (desk : DeskView) (win : ℕ) → SameSizes (virtual, desk) (take_window_call virtual desk win).0
   pub pad : (virtual : VirtualView) (desk : DeskView) (win row column top left bottom right : ℕ) → SameSizes (virtual, desk) (take_pad_call virtual desk win row column top left bottom right).0
-  pub pair : (virtual : VirtualView) (desk : DeskView) (pair foreground background : ℕ) → SameSizes (virtual, desk) ((set_pair_call virtual pair foreground background).0, desk)
+  pub pair : (virtual : VirtualView) (desk : DeskView) (pair : ℕ) (foreground background : Option ℕ) → SameSizes (virtual, desk) ((set_pair_of_call virtual pair foreground background).0, desk)
   pub mark : (virtual : VirtualView) (desk : DeskView) (row n : ℕ) → SameSizes (virtual, desk) (marked_rows row n virtual, desk)

@@ -1,6 +1,7 @@
 //! The virtual screen. What is true of every one is in `specs/VirtualViews.antt`.
-ghost use Rattle.std.specs.Prelude.{◌≡◌, ◌<◌, ◌≤◌, IfOk, IfSome};
-ghost use Rattle.scr_virtual.specs.Pairs.{set_pair_call};
+ghost use Rattle.std.specs.Prelude.{◌≡◌, ◌<◌, ◌≤◌, IfOk, IfErr, IfSome, true, false};
+ghost use Rattle.scr_cells.specs.PenViews.{IsColour};
+ghost use Rattle.scr_virtual.specs.Pairs.{is_no_colour, set_pair_call, set_pair_of_call};
 ghost use Rattle.scr_virtual.specs.Ranges.{AreNoneOutside, IsRange};
 ghost use Rattle.scr_virtual.specs.VirtualViews.{IsVirtual, altered_at, blank_virtual, marked_rows, range_at, settled};
 
@@ -113,18 +114,29 @@ impl Virtual {
     ///
     /// Refused: BadPair if the pair is not 1 to 63; BadColour if a colour is above 7. X/Open Curses Issue 7,
     /// init_pair().
-    #[tactic(auto, unfolding(crate::specs::Pairs::set_pair_call))]
     pub fn set_pair(&mut self, pair: u32, foreground: u32, background: u32) -> Result<(), WinFault>
         ensures { (self.new, result) ≡ set_pair_call self.old pair foreground background }
+    {
+        self.set_pair_of(pair, Some(foreground), Some(background))
+    }
+
+    /// The same, where a colour that is `None` is the terminal's default.
+    #[tactic(auto, unfolding(crate::specs::Pairs::set_pair_of_call))]
+    pub fn set_pair_of(
+        &mut self,
+        pair: u32,
+        foreground: Option<u32>,
+        background: Option<u32>,
+    ) -> Result<(), WinFault>
+        ensures { (self.new, result) ≡ set_pair_of_call self.old pair foreground background }
     {
         if pair == 0 || pair > Cell::MOST_PAIR {
             return Err(WinFault::BadPair);
         }
-        if foreground > 7 || background > 7 {
+        let (Ok(foreground), Ok(background)) = (colour(foreground), colour(background)) else {
             return Err(WinFault::BadColour);
-        }
-        self.picture
-            .set_pair(pair, foreground as u8, background as u8);
+        };
+        self.picture.set_pair_of(pair, foreground, background);
         let size = self.picture.size();
         self.mark(0, size.rows);
         Ok(())
@@ -151,5 +163,17 @@ impl Virtual {
         let whole = (0, size.columns - 1);
         self.changed.fill(first, end, whole);
         self.altered.fill(first, end, whole);
+    }
+}
+
+// A colour in a byte, or the terminal's default. Refused if it is above 7.
+fn colour(colour: Option<u32>) -> Result<Option<u8>, WinFault>
+    ensures ok { IfOk result (λ c. c ≡ colour × IfSome c IsColour × is_no_colour colour ≡ false) }
+    ensures err { IfErr result (λ _. is_no_colour colour ≡ true) }
+{
+    match colour {
+        None => Ok(None),
+        Some(colour) if colour > 7 => Err(WinFault::BadColour),
+        Some(colour) => Ok(Some(colour as u8)),
     }
 }

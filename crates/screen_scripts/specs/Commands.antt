@@ -4,10 +4,10 @@ use Rattle.std.specs.Str.{bytes_eq}
 use Rattle.scr_cells.specs.declared.attributes.Attrs.{Attrs}
 use Rattle.scr_windows.specs.declared.faults.Win.{Win}
 use Rattle.screen_sessions.specs.declared.calls.Call.{Call}
-use Rattle.screen_sessions.specs.declared.calls.Call.TheVariants.{NewWindow, NewPad, Derive, Sub, SubPad, Copy, Overlay, Overwrite, Delete, TouchWindow, Untouch, AddByte, AddText, Erase, Clear, Scroll, ChangeBackground, MoveCursor, ScrollOk, AttrSet, ColorSet, SetPair, Noutrefresh, PadNoutrefresh, Doupdate}
+use Rattle.screen_sessions.specs.declared.calls.Call.TheVariants.{NewWindow, NewPad, Derive, Sub, SubPad, Copy, Overlay, Overwrite, Delete, TouchWindow, Untouch, AddByte, AddText, Erase, Clear, Scroll, ChangeBackground, MoveCursor, ScrollOk, AttrSet, ColorSet, SetPairOf, Noutrefresh, PadNoutrefresh, Doupdate}
 use Rattle.screen_scripts.specs.declared.commands.Command.{Command}
 use Rattle.screen_scripts.specs.declared.commands.Command.TheVariants.{Size, Add, Show, Make, Key, Idle}
-use Rattle.screen_scripts.specs.Fields.{cut, numbers, number_and_text, integer, setting, background, hexadecimal_bytes}
+use Rattle.screen_scripts.specs.Fields.{cut, numbers, number_and_text, integer, setting, background, two_colours, hexadecimal_bytes}
 
 -- words, each with what it stands for
 abbrev pub Words : Type 0 → Type 0
@@ -58,10 +58,7 @@ with_two =
     ∷ []
 
 unfoldable pub with_three : Words (ℕ → ℕ → ℕ → Call)
-with_three =
-    (codes "at", λ w row column. MoveCursor (window w) row column)
-    ∷ (codes "pair", λ pair foreground background. SetPair pair foreground background)
-    ∷ []
+with_three = (codes "at", λ w row column. MoveCursor (window w) row column) ∷ []
 
 unfoldable pub with_four : Words (ℕ → ℕ → ℕ → ℕ → Call)
 with_four = (codes "win", λ rows columns row column. NewWindow rows columns row column) ∷ []
@@ -111,6 +108,10 @@ text_call = with_number (λ w text. Some (Make (AddText (window w) text)))
 abbrev pub background_call : Option (List ℕ) → Option Command
 background_call = with_number (λ w text. option_map (λ cell. Make (ChangeBackground (window w) cell)) (background text))
 
+-- a pair and its colours
+abbrev pub pair_call : Option (List ℕ) → Option Command
+pair_call = with_number (λ pair text. option_map (λ colours. Make (SetPairOf pair colours.0 colours.1)) (two_colours text))
+
 -- a window and a setting
 abbrev pub setting_call : Option (List ℕ) → Option Command
 setting_call = with_number (λ w text. option_map (λ is_on. Make (ScrollOk (window w) is_on)) (setting text))
@@ -129,6 +130,7 @@ with_text =
     (codes "add", addition)
     ∷ (codes "put", text_call)
     ∷ (codes "bkgd", background_call)
+    ∷ (codes "pair", pair_call)
     ∷ (codes "scrollok", setting_call)
     ∷ (codes "scroll", scroll_call)
     ∷ (codes "key", key_bytes)

@@ -61,6 +61,15 @@ cell_of text attrs = None
 unfoldable pub background : List ℕ → Option CellView
 background text = option_and_then (λ rest. option_and_then (cell_of (cut text).0) (number rest)) (cut text).1
 
+-- a colour by its number, or `-` for the terminal's default
+unfoldable pub colour : List ℕ → Option (Option ℕ)
+colour text = if bytes_eq text (codes "-") then Some None else option_map (λ n. Some n) (number text)
+
+-- a foreground and a background
+unfoldable pub two_colours : List ℕ → Option (Option ℕ × Option ℕ)
+two_colours text =
+    option_and_then (λ rest. option_and_then (λ first. option_map (λ second. (first, second)) (colour rest)) (colour (cut text).0)) (cut text).1
+
 -- two hexadecimal digits, of either case
 unfoldable pub hexadecimal_byte : List ℕ → Option ℕ
 hexadecimal_byte (high ∷ low ∷ []) =

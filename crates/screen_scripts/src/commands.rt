@@ -1,11 +1,12 @@
 //! Commands: reading a line of a script.
 ghost use Rattle.std.specs.Prelude.{◌≡◌, Some, None, IfOk, IsErrOf};
 ghost use Rattle.std.specs.Option.{option_copied};
-ghost use Rattle.screen_scripts.specs.Commands.{command_of, addition, text_call, background_call, setting_call, scroll_call, key_bytes};
+ghost use Rattle.screen_scripts.specs.Commands.{command_of, addition, text_call, background_call, pair_call, setting_call, scroll_call, key_bytes};
 
 use crate::LineFault;
 use crate::fields::{
     background, copied, cut_field, hexadecimal_bytes, integer, number_and_text, setting,
+    two_colours,
 };
 use crate::numbered::numbered_command;
 use scr_windows::Win;
@@ -50,6 +51,8 @@ pub fn read_command(alloc: Global, line: &[u8]) -> Result<Command, LineFault>
         text_call(alloc, text)
     } else if word == b"bkgd".as_slice() {
         background_call(text).ok_or(LineFault::Bad)
+    } else if word == b"pair".as_slice() {
+        pair_call(text).ok_or(LineFault::Bad)
     } else if word == b"scrollok".as_slice() {
         setting_call(text).ok_or(LineFault::Bad)
     } else if word == b"scroll".as_slice() {
@@ -86,6 +89,15 @@ fn background_call(text: Option<&[u8]>) -> Option<Command>
 {
     let (window, rest) = number_and_text(text)?;
     Some(Command::Make(Call::ChangeBackground(Win(window), background(rest)?)))
+}
+
+// `pair N F B`.
+fn pair_call(text: Option<&[u8]>) -> Option<Command>
+    ensures { result ≡ pair_call (option_copied text.entry) }
+{
+    let (pair, rest) = number_and_text(text)?;
+    let (foreground, background) = two_colours(rest)?;
+    Some(Command::Make(Call::SetPairOf(pair, foreground, background)))
 }
 
 // `scrollok W 0|1`.

@@ -4,7 +4,7 @@ ghost use Rattle.std.specs.Char.{is_ascii_digit};
 ghost use Rattle.std.specs.List.{list_all};
 ghost use Rattle.std.specs.Option.{option_copied, option_map};
 ghost use Rattle.std.specs.Str.Parse.{digits_value};
-ghost use Rattle.screen_scripts.specs.Fields.{cut, each, fields_of, number as number_of, numbers as numbers_of, number_and_text as number_and_text_of, integer as integer_of, setting as setting_of, background as background_of, hexadecimal_byte as hexadecimal_byte_of, hexadecimal_bytes as hexadecimal_bytes_of};
+ghost use Rattle.screen_scripts.specs.Fields.{cut, each, fields_of, number as number_of, numbers as numbers_of, number_and_text as number_and_text_of, integer as integer_of, setting as setting_of, background as background_of, colour as colour_of, two_colours as two_colours_of, hexadecimal_byte as hexadecimal_byte_of, hexadecimal_bytes as hexadecimal_bytes_of};
 ghost use Rattle.screen_scripts.specs.Commands.{numbered};
 
 use crate::LineFault;
@@ -101,6 +101,27 @@ pub(crate) fn background(text: &[u8]) -> Option<Cell>
         return None;
     }
     Cell::new(byte, Attrs(number as u8))
+}
+
+/// A foreground and a background, each by its number, or `-` for the terminal's default.
+#[tactic(auto, unfolding(crate::specs::Fields::two_colours))]
+pub(crate) fn two_colours(text: &[u8]) -> Option<(Option<u32>, Option<u32>)>
+    ensures { result ≡ two_colours_of text.now }
+{
+    let (field, rest) = cut_field(text);
+    let rest = rest?;
+    Some((colour(field)?, colour(rest)?))
+}
+
+#[tactic(auto, unfolding(crate::specs::Fields::colour))]
+fn colour(text: &[u8]) -> Option<Option<u32>>
+    ensures { result ≡ colour_of text.now }
+{
+    if text == b"-".as_slice() {
+        Some(None)
+    } else {
+        Some(Some(number(text)?))
+    }
 }
 
 /// The bytes of a text that has a field of two hexadecimal digits for each. Refused if a field is

@@ -102,8 +102,6 @@ fn with_three(word: &[u8], first: u32, second: u32, third: u32) -> Option<Call>
 {
     if word == b"at".as_slice() {
         Some(Call::MoveCursor(Win(first), second, third))
-    } else if word == b"pair".as_slice() {
-        Some(Call::SetPair(first, second, third))
     } else {
         None
     }

@@ -17,7 +17,7 @@ use Rattle.scr_windows.specs.declared.faults.WinFault.{WinFault}
 use Rattle.scr_windows.specs.declared.faults.WinFault.TheVariants as win_faults
 use Rattle.scr_windows.specs.DeskViews.{DeskView, first_desk}
 use Rattle.scr_virtual.specs.VirtualViews.{VirtualView, blank_virtual, settled}
-use Rattle.scr_virtual.specs.Pairs.{set_pair_call}
+use Rattle.scr_virtual.specs.Pairs.{set_pair_call, set_pair_of_call}
 use Rattle.scr_virtual.specs.Taking.{take_pad_call, take_window_call}
 use Rattle.scr_windows.specs.Calls.Reading.{screen_rows_answer, size_answer}
 use Rattle.scr_memory.specs.Memories.{Agrees, IsDisturbance, MemoryView, all_followed, disturbed, is_known, remembered, unknown}
@@ -27,7 +27,7 @@ use Rattle.scr_keys.specs.Tables.{too_long}
 use Rattle.screen_sessions.specs.declared.answers.Answer.{Answer}
 use Rattle.screen_sessions.specs.declared.answers.Answer.TheVariants.{Failed, Nothing, Refused, Sent}
 use Rattle.screen_sessions.specs.declared.calls.Call.{Call}
-use Rattle.screen_sessions.specs.declared.calls.Call.TheVariants.{Doupdate, Noutrefresh, PadNoutrefresh, RedrawLines, RedrawWindow, SetPair}
+use Rattle.screen_sessions.specs.declared.calls.Call.TheVariants.{Doupdate, Noutrefresh, PadNoutrefresh, RedrawLines, RedrawWindow, SetPair, SetPairOf}
 use Rattle.curses.specs.declared.faults.UpdateFault.TheVariants as update_faults
 use Rattle.curses.specs.declared.faults.UpdateFault.TheVariants.{Flush, Write}
 use Rattle.screen_sessions.specs.declared.sessions.Report.{Report}
@@ -65,6 +65,7 @@ abbrev pub screen_call : Drawn → Call → Drawn × Answer
 screen_call drawn (Noutrefresh win) = both_told (take_window_call drawn.virtual drawn.desk win.0)
 screen_call drawn (PadNoutrefresh win row column top left bottom right) = both_told (take_pad_call drawn.virtual drawn.desk win.0 row column top left bottom right)
 screen_call drawn (SetPair pair foreground background) = virtual_told drawn.desk (set_pair_call drawn.virtual pair foreground background)
+screen_call drawn (SetPairOf pair foreground background) = virtual_told drawn.desk (set_pair_of_call drawn.virtual pair foreground background)
 screen_call drawn (RedrawWindow win) = virtual_told drawn.desk (redraw_window_call drawn.virtual drawn.desk win.0)
 screen_call drawn (RedrawLines win first n) = virtual_told drawn.desk (redraw_lines_call drawn.virtual drawn.desk win.0 first n)
 screen_call drawn call = windows_told drawn.virtual (window_call drawn.desk call)

@@ -115,6 +115,8 @@ pub enum Call {
     RedrawLines(Win, u32, u32),
     /// [`Screen::set_pair`](curses::Screen::set_pair).
     SetPair(u32, u32, u32),
+    /// [`Screen::set_pair_of`](curses::Screen::set_pair_of).
+    SetPairOf(u32, Option<u32>, Option<u32>),
     /// [`Screen::noutrefresh`](curses::Screen::noutrefresh).
     Noutrefresh(Win),
     /// [`Screen::pad_noutrefresh`](curses::Screen::pad_noutrefresh).

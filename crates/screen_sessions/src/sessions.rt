@@ -99,6 +99,9 @@ pub fn make_call<W: Counted>(alloc: Global, screen: &mut Screen, call: &Call, ou
         Call::SetPair(pair, foreground, background) => {
             done_answer(screen.set_pair(*pair, *foreground, *background))
         }
+        Call::SetPairOf(pair, foreground, background) => {
+            done_answer(screen.set_pair_of(*pair, *foreground, *background))
+        }
         Call::RedrawWindow(win) => done_answer(screen.redraw_window(*win)),
         Call::RedrawLines(win, first, n) => done_answer(screen.redraw_lines(*win, *first, *n)),
         _ => make_window_call(alloc, screen, call),

@@ -1,6 +1,6 @@
 //! Calls on windows that give nothing: each is one call of `curses::Screen`.
 ghost use Rattle.std.specs.Prelude.{if◌then◌else◌};
-ghost use Rattle.scr_virtual.specs.Pairs.{set_pair_call};
+ghost use Rattle.scr_virtual.specs.Pairs.{set_pair_of_call};
 ghost use Rattle.scr_windows.specs.Calls.Erasing.{clear_to_eol_call};
 ghost use Rattle.scr_windows.specs.Calls.Scrolling.{delete_byte_call, insert_delete_lines_call, scroll_call};
 ghost use Rattle.scr_windows.specs.Calls.Settings.{color_set_call, move_cursor_call, set_region_call};
@@ -8,8 +8,9 @@ ghost use Rattle.scr_windows.specs.Calls.Touching.{touch_all_call};
 ghost use Rattle.huttavel_c.specs.Asking.{Asked, on_virtual, on_windows};
 ghost use Rattle.huttavel_c.specs.Families.{number_call, setting_call, window_call};
 ghost use Rattle.huttavel_c.specs.Replies.{done_number};
+ghost use Rattle.huttavel_c.specs.Showing.{colour_given};
 
-use crate::answers::done;
+use crate::answers::{DEFAULT_COLOUR, done};
 use crate::faults::CLOSED;
 use crate::handles::Handle;
 use curses::{Attrs, Win};
@@ -122,7 +123,8 @@ pub extern "C" fn huttavel_held_color_set(handle: &mut Handle, window: u32, pair
     })
 }
 
-/// Sets the colours of a pair, by `Screen::set_pair`. Refused: CLOSED; BAD_PAIR; BAD_COLOUR.
+/// Sets the colours of a pair, by `Screen::set_pair_of`; the number `DEFAULT_COLOUR` stands for the terminal's default.
+/// Refused: CLOSED; BAD_PAIR; BAD_COLOUR.
 #[unsafe(no_mangle)]
 pub extern "C" fn huttavel_held_set_pair(
     handle: &mut Handle,
@@ -130,11 +132,26 @@ pub extern "C" fn huttavel_held_set_pair(
     foreground: u32,
     background: u32,
 ) -> u32
-    ensures { Asked (λ screen. on_virtual screen (set_pair_call screen.virtual pair foreground background)) done_number 1 handle.old.held.value handle.new.held.value result }
+    ensures { Asked (λ screen. on_virtual screen (set_pair_of_call screen.virtual pair (colour_given foreground) (colour_given background))) done_number 1 handle.old.held.value handle.new.held.value result }
 {
     handle.lend(CLOSED, |session| {
-        done(session.screen.set_pair(pair, foreground, background))
+        done(
+            session
+                .screen
+                .set_pair_of(pair, colour_given(foreground), colour_given(background)),
+        )
     })
+}
+
+// The colour that a number is given for.
+fn colour_given(number: u32) -> Option<u32>
+    ensures { result ≡ colour_given number }
+{
+    if number == DEFAULT_COLOUR {
+        None
+    } else {
+        Some(number)
+    }
 }
 
 /// A setting of a window, by its number in `enum setting_call`: attributes as bits, or 0 for off and another number for

@@ -7,9 +7,9 @@ ghost use Rattle.huttavel_c.specs.Families.{window_reply};
 ghost use Rattle.huttavel_c.specs.Giving.{unchanged};
 ghost use Rattle.huttavel_c.specs.Lending.{lent_reply, property_of_lent, setting_of_lent};
 ghost use Rattle.huttavel_c.specs.Replies.{as_number, refused, seen_reply, touched_reply, with_cell, with_one, with_two};
-ghost use Rattle.huttavel_c.specs.Showing.{colours_of, cursor_reply, nth_reply, wanted_reply};
+ghost use Rattle.huttavel_c.specs.Showing.{colour_number, colours_of, cursor_reply, nth_reply, wanted_reply};
 
-use crate::answers::{Reply, one, pair, refused, seen, three, touched, two};
+use crate::answers::{DEFAULT_COLOUR, Reply, one, pair, refused, seen, three, touched, two};
 use crate::faults::{BAD_PAIR, CLOSED, NO_CURSOR, NO_PARENT, NO_WINDOW, OFF_SCREEN, window_number};
 use crate::handles::Handle;
 use curses::{Picture, Win, WindowRef};
@@ -187,19 +187,29 @@ pub extern "C" fn huttavel_held_nth_window(handle: &mut Handle, index: u32) -> R
     })
 }
 
-/// The colours of a pair. Refused: CLOSED; BAD_PAIR.
+/// The colours of a pair; `DEFAULT_COLOUR` is the terminal's default. Refused: CLOSED; BAD_PAIR.
 #[unsafe(no_mangle)]
 pub extern "C" fn huttavel_held_pair_colours(handle: &mut Handle, pair: u32) -> Reply
     ensures { Asked (λ screen. reading screen (colours_of screen.virtual.picture.pairs pair)) unchanged (refused 1) handle.old.held.value handle.new.held.value result }
 {
     handle.lend(refused(CLOSED), |session| {
-        match session.screen.picture().pair(pair) {
+        match session.screen.picture().pair_of(pair) {
             Some((foreground, background)) => {
-                two((u32::from(foreground), u32::from(background)))
+                two((colour_number(foreground), colour_number(background)))
             }
             None => refused(BAD_PAIR),
         }
     })
+}
+
+// The number of a colour.
+fn colour_number(colour: Option<u8>) -> u32
+    ensures { result ≡ colour_number colour }
+{
+    match colour {
+        Some(colour) => u32::from(colour),
+        None => DEFAULT_COLOUR,
+    }
 }
 
 /// The cell that the next update brings the terminal to at a place of the screen. Refused: CLOSED; OFF_SCREEN.

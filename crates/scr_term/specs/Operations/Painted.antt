@@ -1,5 +1,5 @@
 -- What a terminal shows when a picture is painted on it. curs_refresh(3X), doupdate().
-use Rattle.std.specs.Prelude.{ℕ, ◌≡◌, List, map, IfSome}
+use Rattle.std.specs.Prelude.{ℕ, ◌≡◌, List, Option, map, IfSome}
 use Rattle.scr_cells.specs.CellViews.{CellView}
 use Rattle.scr_cells.specs.LookViews.{LookView, seen, negative_grid}
 use Rattle.scr_cells.specs.PictureViews.{PictureView}
@@ -8,7 +8,7 @@ use Rattle.scr_term.specs.Operations.States.{TerminalState}
 use Rattle.scr_term.specs.declared.operations.operation.Spot.TheVariants.{At}
 
 -- What is seen of a cell on a terminal with these abilities, if the pairs have these colours.
-abbrev pub seen_on : Abilities → List (ℕ × ℕ) → CellView → LookView
+abbrev pub seen_on : Abilities → List (Option ℕ × Option ℕ) → CellView → LookView
 seen_on abilities pairs = seen abilities.shown abilities.colours pairs
 
 -- What is seen of the picture's cell, at every place.

@@ -18,6 +18,11 @@ returns-in-SetPair-clause-made g c =
     subst (λ call. IsMade c.args.screen.now c.set_pair.new.self call c.done_answer-in-SetPair.result (g.W.Counted.told c.args.out.now) (g.W.Counted.told c.args.out.now)) (sym c.in-SetPair.is)
     (virtual_made c.args.screen.now c.set_pair.new.self _ c.set_pair.result c.done_answer-in-SetPair.result (g.W.Counted.told c.args.out.now) _ refl refl refl c.set_pair.ensures c.done_answer-in-SetPair.ensures.value)
 
+pub returns-in-SetPairOf-clause-made : goal.returns-in-SetPairOf-clause-made
+returns-in-SetPairOf-clause-made g c =
+    subst (λ call. IsMade c.args.screen.now c.set_pair_of.new.self call c.done_answer-in-SetPairOf.result (g.W.Counted.told c.args.out.now) (g.W.Counted.told c.args.out.now)) (sym c.in-SetPairOf.is)
+    (virtual_made c.args.screen.now c.set_pair_of.new.self _ c.set_pair_of.result c.done_answer-in-SetPairOf.result (g.W.Counted.told c.args.out.now) _ refl refl refl c.set_pair_of.ensures c.done_answer-in-SetPairOf.ensures.value)
+
 pub returns-in_default-clause-made : goal.returns-in_default-clause-made
 returns-in_default-clause-made g c =
     windows_made c.args.screen.now c.make_window_call.new.screen c.args.call.now c.make_window_call.result (g.W.Counted.told c.args.out.now)
