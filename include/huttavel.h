@@ -76,6 +76,9 @@ enum huttavel_attr {
     HUTTAVEL_INVISIBLE = 64
 };
 
+/* The terminal's default colour, where a colour of a pair is meant. */
+#define HUTTAVEL_DEFAULT_COLOUR UINT32_MAX
+
 /* Why a call was refused. huttavel_fault_text gives the text of each. */
 enum huttavel_fault {
     HUTTAVEL_OK = 0,

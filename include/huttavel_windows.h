@@ -147,7 +147,8 @@ uint32_t huttavel_noutrefresh(huttavel *handle, uint32_t window);
 uint32_t huttavel_pad_noutrefresh(huttavel *handle, uint32_t window, uint32_t row, uint32_t column, uint32_t top,
                                   uint32_t left, uint32_t bottom, uint32_t right);
 
-/* Sets the colours, 0 to 7, of a pair, 1 to 63. Refused: BAD_PAIR, BAD_COLOUR. init_pair(). */
+/* Sets the colours of a pair, 1 to 63: each 0 to 7, or HUTTAVEL_DEFAULT_COLOUR. Refused: BAD_PAIR, BAD_COLOUR.
+ * init_pair(). */
 uint32_t huttavel_set_pair(huttavel *handle, uint32_t pair, uint32_t foreground, uint32_t background);
 
 /* Others wrote on the rows of the screen where a window, or `n` of its lines, is: the next update repaints them.
@@ -169,8 +170,8 @@ uint32_t huttavel_nth_window(huttavel *handle, uint32_t index, uint32_t *window)
 uint32_t huttavel_shown_attrs(huttavel *handle, uint8_t *attrs);
 uint32_t huttavel_has_colours(huttavel *handle, bool *colours);
 
-/* The colours of a pair; pair 0 has the terminal's default colours, and is refused too. Refused: BAD_PAIR.
- * pair_content(). */
+/* The colours of a pair: each 0 to 7, or HUTTAVEL_DEFAULT_COLOUR. Pair 0 has the terminal's default colours, and is
+ * refused too. Refused: BAD_PAIR. pair_content(). */
 uint32_t huttavel_pair_colours(huttavel *handle, uint32_t pair, uint32_t *foreground, uint32_t *background);
 
 /* A window's rows and columns; its cursor; its first place on the screen. Refused, the last: IS_PAD. getmaxyx(),

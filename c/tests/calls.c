@@ -295,6 +295,11 @@ static void sending(huttavel *handle)
     IS(HUTTAVEL_OK, huttavel_set_pair(handle, 2, 1, 4));
     IS(HUTTAVEL_BAD_PAIR, huttavel_set_pair(handle, 0, 1, 4));
     IS(HUTTAVEL_BAD_COLOUR, huttavel_set_pair(handle, 1, 8, 4));
+    IS(HUTTAVEL_BAD_COLOUR, huttavel_set_pair(handle, 1, HUTTAVEL_DEFAULT_COLOUR, 8));
+    IS(HUTTAVEL_BAD_PAIR, huttavel_set_pair(handle, 64, HUTTAVEL_DEFAULT_COLOUR, 8));
+    IS(HUTTAVEL_OK, huttavel_set_pair(handle, 3, HUTTAVEL_DEFAULT_COLOUR, 4));
+    IS(HUTTAVEL_OK, huttavel_pair_colours(handle, 3, &row, &column));
+    CHECK(row == HUTTAVEL_DEFAULT_COLOUR && column == 4);
     IS(HUTTAVEL_OK, huttavel_pair_colours(handle, 2, &row, &column));
     CHECK(row == 1 && column == 4);
     IS(HUTTAVEL_BAD_PAIR, huttavel_pair_colours(handle, 0, &row, &column));

@@ -138,7 +138,7 @@ static uint32_t show(huttavel *of)
     switch (any(8)) {
     case 0: return huttavel_noutrefresh(of, window());
     case 1: return huttavel_pad_noutrefresh(of, window(), any(4), any(4), any(9), any(9), number(), number());
-    case 2: return huttavel_set_pair(of, number(), any(9), any(9));
+    case 2: return huttavel_set_pair(of, number(), any(9), any(2) ? any(9) : HUTTAVEL_DEFAULT_COLOUR);
     case 3: return huttavel_redraw_window(of, window());
     case 4: return huttavel_redraw_lines(of, window(), number(), number());
     case 5: return huttavel_copy(of, window(), window(), any(5), any(5), any(9), any(9), number(), number(), any(2));

@@ -7,6 +7,8 @@ pub enum Argument {
     Size,
     /// A number below 2^32.
     Number,
+    /// A number below 2^32, or `-`.
+    Colour,
     /// A number up to this one.
     UpTo(u32),
     /// A number that may begin with `-`.
@@ -21,7 +23,7 @@ pub enum Argument {
     Text,
 }
 
-use Argument::{Bytes, Character, Number, Setting, Signed, Size, Text, UpTo};
+use Argument::{Bytes, Character, Colour, Number, Setting, Signed, Size, Text, UpTo};
 
 /// The arguments of the command with this word; `None` if there is no such command.
 pub fn arguments_of(word: &[u8]) -> Option<&'static [Argument]> {
@@ -35,7 +37,8 @@ pub fn arguments_of(word: &[u8]) -> Option<&'static [Argument]> {
         "pad" | "color" | "overlay" | "overwrite" => Some(&[Number, Number]),
         "byte" => Some(&[Number, UpTo(255)]),
         "attr" => Some(&[Number, UpTo(127)]),
-        "at" | "pair" => Some(&[Number, Number, Number]),
+        "at" => Some(&[Number, Number, Number]),
+        "pair" => Some(&[Number, Colour, Colour]),
         "win" => Some(&[Number; 4]),
         "sub" | "derive" | "subpad" => Some(&[Number; 5]),
         "padrefresh" => Some(&[Number; 7]),

@@ -167,6 +167,8 @@ fn refused(alloc: Global, argument: Argument, word: &[u8]) -> Result<Option<Reas
     match argument {
         Argument::Size => not_up_to(alloc, u32::MAX, word, Reason::WrongSize),
         Argument::Number => not_up_to(alloc, u32::MAX, word, Reason::OutOfRange),
+        Argument::Colour if word == b"-".as_slice() => Ok(None),
+        Argument::Colour => not_up_to(alloc, u32::MAX, word, Reason::OutOfRange),
         Argument::UpTo(most) => not_up_to(alloc, most, word, Reason::OutOfRange),
         Argument::Signed => not_signed(alloc, word),
         Argument::Setting if !matches!(word, [b'0' | b'1']) => {
