@@ -12,7 +12,7 @@ use Rattle.scr_cells.specs.Attributes.{all_attributes, attributes_of}
 use Rattle.scr_cells.specs.CellViews.{CellView, IsCell, blank_cell}
 use Rattle.scr_cells.specs.Grids.{grid_at, grid_with}
 use Rattle.scr_cells.specs.LookViews.{LookView}
-use Rattle.scr_cells.specs.PenViews.{PenView, is_plain_pen, pair_colours, plain_pen, with_attribute}
+use Rattle.scr_cells.specs.PenViews.{IsColour, PenView, is_plain_pen, pair_colours, plain_pen, with_attribute}
 use Rattle.scr_cells.specs.PictureViews.{PictureView, AreColours, IsPicture, IsPlace}
 use Rattle.scr_term.specs.declared.operations.capability.Capability.TheVariants.{Sgr0}
 use Rattle.scr_term.specs.declared.operations.operation.Op.{Op}

@@ -1,5 +1,5 @@
 //! Finding the places of a row that differ from what it shows, and the blanks at its end.
-ghost use Rattle.std.specs.Prelude.{ℕ, ◌≡◌, ◌≢◌, ◌+◌, ◌-◌, ◌<◌, ◌≤◌, ◌⊎◌, IfSome, List, Some, false, true, length, option_map, slice_index_or, if◌then◌else◌};
+ghost use Rattle.std.specs.Prelude.{ℕ, ◌≡◌, ◌≢◌, ◌+◌, ◌-◌, ◌<◌, ◌≤◌, ◌⊎◌, IfSome, List, Option, Some, false, true, length, option_map, slice_index_or, if◌then◌else◌};
 ghost use Rattle.scr_cells.specs.CellViews.{blank_cell};
 ghost use Rattle.scr_cells.specs.Grids.{grid_row};
 ghost use Rattle.scr_cells.specs.LookViews.{blank};
@@ -255,7 +255,7 @@ impl Painter {
         requires from { from ≤ end }
         requires end { end ≤ length cells.now }
         ensures end { from + result ≤ end }
-        ensures unlike { (c : ℕ) → from ≤ c → c < from + result → (pairs : List (ℕ × ℕ))
+        ensures unlike { (c : ℕ) → from ≤ c → c < from + result → (pairs : List (Option ℕ × Option ℕ))
             → shown_in (option_map (λ looks. looks.now) before.entry) c ≢ painter_sees self pairs (slice_index_or cells.now c blank_cell) }
         ensures alike { (c : ℕ) → from ≤ c → c < from + result → HasRendition (slice_index_or cells.now from blank_cell) cells.now c }
     {
@@ -275,7 +275,7 @@ impl Painter {
         requires from { from ≤ end }
         requires end { end ≤ length cells.now }
         ensures end { from + result ≤ end }
-        ensures same { (c : ℕ) → from ≤ c → c < from + result → (pairs : List (ℕ × ℕ))
+        ensures same { (c : ℕ) → from ≤ c → c < from + result → (pairs : List (Option ℕ × Option ℕ))
             → shown_in (option_map (λ looks. looks.now) before.entry) c ≡ painter_sees self pairs (slice_index_or cells.now c blank_cell) }
     {
         match before {

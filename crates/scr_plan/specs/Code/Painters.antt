@@ -48,11 +48,11 @@ painter_leads painter spot now place pen =
     (if painter.moves_in_any_rendition then moves_unless_there spot place ++ resets_unless_plain painter now else resets_unless_plain painter now ++ moves_unless_there spot place) ++ renders pen
 
 -- what is seen of a cell
-abbrev pub painter_sees : Painter → List (ℕ × ℕ) → CellView → LookView
+abbrev pub painter_sees : Painter → List (Option ℕ × Option ℕ) → CellView → LookView
 painter_sees painter pairs cell = seen painter.shown.0 painter.colours pairs cell
 
 -- one place with a cell of these pairs' colours, and with the cell that the picture has there
-abbrev pub painter_paints : Painter → List (ℕ × ℕ) → ℕ × ℕ → CellView → List Op
+abbrev pub painter_paints : Painter → List (Option ℕ × Option ℕ) → ℕ × ℕ → CellView → List Op
 painter_paints painter pairs place cell =
     painter_goes painter place ++ renders (painter_sees painter pairs cell).pen ++ Put (painter_sees painter pairs cell).byte ∷ []
 
