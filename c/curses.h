@@ -8,7 +8,7 @@
  * - all that is about wide characters: cchar_t, add_wch(), addwstr(), bkgrnd(), box_set(), border_set(), get_wch(),
  *   getcchar(), hline_set(), in_wch(), ins_wch(), setcchar(), slk_wset(), unget_wch(), WACS_* and so on;
  * - the calls of term.h: setupterm(), tigetstr(), tparm(), tputs(), putp(), vidattr(), vidputs() and so on;
- * - what only ncurses has, but for the mouse, keys and sizes: wresize(), use_default_colors(), init_extended_pair(),
+ * - what only ncurses has, but for the mouse, keys, sizes and default colours: wresize(), init_extended_pair(),
  *   is_keypad(), is_scrollok() and their kin, wgetparent(), use_window(), newscr, TABSIZE and so on.
  */
 #ifndef HUTTAVEL_CURSES_H
@@ -169,6 +169,8 @@ int slk_color(short pair);
 int start_color(void);
 bool has_colors(void);
 bool can_change_color(void);
+int use_default_colors(void);
+int assume_default_colors(int foreground, int background);
 int init_pair(short pair, short foreground, short background);
 int pair_content(short pair, short *foreground, short *background);
 int init_color(short color, short red, short green, short blue);

@@ -1,5 +1,8 @@
 /* Colours, and the attributes that the terminal shows. */
 
+/* A number that no colour has. */
+#define NO_COLOUR 8u
+
 bool has_colors(void)
 {
     bool colours = false;
@@ -21,26 +24,58 @@ int start_color(void)
     return OK;
 }
 
-int init_pair(short pair, short foreground, short background)
+/* Makes -1 a colour of pairs: the terminal's default, which pair 0 has always. */
+int use_default_colors(void)
 {
-    if (!current || pair < 0 || foreground < 0 || background < 0)
+    if (!has_colors())
         return ERR;
-    return answer(huttavel_set_pair(&current->handle, (uint32_t)pair, (uint32_t)foreground, (uint32_t)background));
+    current->has_defaults = true;
+    return OK;
 }
 
-/* Pair 0 has the terminal's own colours, whatever they are: they count as white on black. */
+/* The same. ERR for other colours of pair 0, which has the terminal's own. */
+int assume_default_colors(int foreground, int background)
+{
+    return foreground == -1 && background == -1 ? use_default_colors() : ERR;
+}
+
+/* The number of a colour in the handle. One that is refused there, if it is none here. */
+static uint32_t number_of_colour(short colour)
+{
+    if (colour == -1 && current->has_defaults)
+        return HUTTAVEL_DEFAULT_COLOUR;
+    return colour < 0 ? NO_COLOUR : (uint32_t)colour;
+}
+
+int init_pair(short pair, short foreground, short background)
+{
+    if (!current || pair < 0)
+        return ERR;
+    return answer(huttavel_set_pair(&current->handle, (uint32_t)pair, number_of_colour(foreground),
+                                    number_of_colour(background)));
+}
+
+/* A colour by its number in the handle. */
+static short colour_of(uint32_t number)
+{
+    return number == HUTTAVEL_DEFAULT_COLOUR ? -1 : (short)number;
+}
+
+/* Pair 0 has the terminal's own colours, whatever they are: they count as white on black, unless -1 is a colour. */
 int pair_content(short pair, short *foreground, short *background)
 {
     uint32_t first = COLOR_WHITE, second = COLOR_BLACK;
 
     if (!current || pair < 0)
         return ERR;
+    if (pair == 0 && current->has_defaults)
+        first = second = HUTTAVEL_DEFAULT_COLOUR;
     if (pair > 0 && huttavel_pair_colours(&current->handle, (uint32_t)pair, &first, &second) != HUTTAVEL_OK)
         return ERR;
     if (foreground)
-        *foreground = (short)first;
+        *foreground = colour_of(first);
     if (background)
-        *background = (short)second;
+        *background = colour_of(second);
     return OK;
 }
 

@@ -109,6 +109,7 @@ struct huttavel_curses_screen {
     int above, below;          /* how many lines are taken off the top, and the bottom */
     struct labels labels;
     int colors, pairs;         /* COLORS, COLOR_PAIRS: 0 before start_color() */
+    bool has_defaults;         /* use_default_colors() */
     struct termios shell, program, saved;
     bool is_terminal;          /* whether `shell` could be read */
     bool is_echo, is_newline;  /* echo(), nl() */

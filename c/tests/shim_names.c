@@ -439,6 +439,29 @@ static void telling_colours(void)
     CHECK(!can_change_color());
 }
 
+/* -1 is a colour once the program says so. */
+static void default_colours(void)
+{
+    short foreground = 5, background = 5;
+
+    IS(ERR, init_pair(5, COLOR_RED, -1));
+    IS(ERR, assume_default_colors(COLOR_RED, -1));
+    IS(ERR, init_pair(5, -1, COLOR_RED));
+    IS(OK, use_default_colors());
+    IS(OK, init_pair(5, COLOR_RED, -1));
+    IS(OK, pair_content(5, &foreground, &background));
+    CHECK(foreground == COLOR_RED && background == -1);
+    IS(OK, init_pair(6, -1, -1));
+    IS(OK, pair_content(6, &foreground, &background));
+    CHECK(foreground == -1 && background == -1);
+    IS(OK, pair_content(0, &foreground, &background));
+    CHECK(foreground == -1 && background == -1);
+    IS(ERR, init_pair(5, -2, COLOR_RED));
+    IS(ERR, init_pair(5, 8, COLOR_RED));
+    IS(ERR, init_pair(64, -1, -1));
+    IS(ERR, init_pair(0, -1, -1));
+}
+
 static void telling_names(void)
 {
     CHECK(strncmp(curses_version(), "huttavel ", 9) == 0);
@@ -706,6 +729,7 @@ int main(void)
     using_the_mouse();
     finding_places();
     telling_colours();
+    default_colours();
     telling_names();
     keeping_windows();
     refusing_windows();
