@@ -1,5 +1,5 @@
 //! Calls on windows that give nothing: each is one call of `curses::Screen`.
-ghost use Rattle.std.specs.Prelude.{if◌then◌else◌};
+ghost use Rattle.std.specs.Prelude.{◌≡◌, if◌then◌else◌};
 ghost use Rattle.scr_virtual.specs.Pairs.{set_pair_of_call};
 ghost use Rattle.scr_windows.specs.Calls.Erasing.{clear_to_eol_call};
 ghost use Rattle.scr_windows.specs.Calls.Scrolling.{delete_byte_call, insert_delete_lines_call, scroll_call};
