@@ -21,6 +21,22 @@ static WINDOW *whole_window(SCREEN *screen)
 
 static void resize(SCREEN *screen);
 
+/* Makes the next update leave the terminal's cursor at a place; anywhere for -1 and -1. Copying a window of which no
+   line is touched changes the place of the cursor and nothing else. */
+static int set_cursor(SCREEN *screen, int row, int column)
+{
+    WINDOW *window = whole_window(screen);
+    bool is_anywhere = row == -1 && column == -1;
+    int done;
+
+    if (!window || untouchwin(window) == ERR || (!is_anywhere && wmove(window, row, column) == ERR))
+        return ERR;
+    huttavel_leave_ok(handle_of(window), window->number, is_anywhere);
+    done = answer(huttavel_noutrefresh(handle_of(window), window->number));
+    huttavel_leave_ok(handle_of(window), window->number, false);
+    return done;
+}
+
 /* Takes over the terminal for updates again, after endwin(), at the size that it has now. */
 static void resume(SCREEN *screen)
 {
@@ -61,6 +77,30 @@ int doupdate(void)
     return current ? update(current) : ERR;
 }
 
+/* Copies the touched lines, as far as they are on the screen, of a window that reaches over its edge. */
+static int copy_over_edge(WINDOW *window)
+{
+    const SCREEN *screen = window->screen;
+    int columns = screen->columns - window->column, line;
+    int top = window->row + screen->above, left = window->column;
+    bool is_anywhere = false;
+
+    columns = columns < window->columns ? columns : window->columns;
+    for (line = 0; line < window->rows && line < screen->rows - window->row && columns > 0; line++)
+        if (is_linetouched(window, line) &&
+            huttavel_pad_noutrefresh(handle_of(window), window->number, (uint32_t)line, 0, (uint32_t)(top + line),
+                                     (uint32_t)left, (uint32_t)(top + line),
+                                     (uint32_t)(left + columns - 1)) != HUTTAVEL_OK)
+            return ERR;
+    untouchwin(window);
+    huttavel_is_leave_ok(handle_of(window), window->number, &is_anywhere);
+    if (is_anywhere)
+        return set_cursor(window->screen, -1, -1);
+    if (getcury(window) < screen->rows - window->row && getcurx(window) < columns)
+        return set_cursor(window->screen, top + getcury(window), left + getcurx(window));
+    return OK;
+}
+
 /* Copies a window to the virtual screen. For curscr, all rows are repainted. */
 int wnoutrefresh(WINDOW *window)
 {
@@ -71,6 +111,8 @@ int wnoutrefresh(WINDOW *window)
         return OK;
     }
     window->has_moved = false;
+    if (window->is_over)
+        return copy_over_edge(window);
     return answer(huttavel_noutrefresh(handle_of(window), window->number));
 }
 
@@ -137,19 +179,10 @@ void huttavel_curses_cursor(int *row, int *column)
     }
 }
 
-/* What setsyx() calls. Copying a window of which no line is touched changes the place of the cursor and nothing else. */
+/* What setsyx() calls. */
 int huttavel_curses_set_cursor(int row, int column)
 {
-    WINDOW *window = current ? whole_window(current) : NULL;
-    bool is_anywhere = row == -1 && column == -1;
-    int done;
-
-    if (!window || untouchwin(window) == ERR || (!is_anywhere && wmove(window, row, column) == ERR))
-        return ERR;
-    huttavel_leave_ok(handle_of(window), window->number, is_anywhere);
-    done = wnoutrefresh(window);
-    huttavel_leave_ok(handle_of(window), window->number, false);
-    return done;
+    return current ? set_cursor(current, row, column) : ERR;
 }
 
 /* Moves the terminal's cursor now. The place where it was is known, so the first two numbers are not looked at; what
@@ -169,7 +202,7 @@ int redrawwin(WINDOW *window)
 {
     if (is_shown(window))
         return wnoutrefresh(window);
-    return answer(huttavel_redraw_window(handle_of(window), number_of(window)));
+    return wredrawln(window, 0, getmaxy(window));
 }
 
 /* How many of `count` lines from a line on there are; as many as were given where the first is none. */
@@ -180,8 +213,24 @@ static uint32_t lines_from(const WINDOW *window, int first, int count)
     return (uint32_t)count;
 }
 
+/* Marks rows of the screen where lines of a window lie that reaches over its edge. */
+static int redraw_over_edge(WINDOW *window, int first, int count)
+{
+    WINDOW *whole = whole_window(window->screen);
+    int rows = window->screen->rows - window->row;
+
+    if (!whole || first < 0 || count < 0 || first > window->rows - count)
+        return ERR;
+    if (first >= rows)
+        return OK;
+    return answer(huttavel_redraw_lines(handle_of(whole), whole->number, (uint32_t)(screen_row_of(window) + first),
+                                        (uint32_t)(count < rows - first ? count : rows - first)));
+}
+
 int wredrawln(WINDOW *window, int first, int count)
 {
+    if (window && window->is_over)
+        return redraw_over_edge(window, first, (int)lines_from(window, first, count));
     return answer(huttavel_redraw_lines(handle_of(window), number_of(window), (uint32_t)first,
                                         lines_from(window, first, count)));
 }
@@ -225,10 +274,31 @@ bool is_wintouched(WINDOW *window)
     return touched;
 }
 
+static int least(int one, int other)
+{
+    return one < other ? one : other;
+}
+
+/* Copies what two windows cover both, one of which reaches over the edge of the screen. */
+static int copy_common(const WINDOW *source, WINDOW *target, bool overlaid)
+{
+    int down = getbegy(target) - getbegy(source), right = getbegx(target) - getbegx(source);
+    int top = down < 0 ? -down : 0, left = right < 0 ? -right : 0;
+    int bottom = least(target->rows, source->rows - down) - 1, end = least(target->columns, source->columns - right) - 1;
+
+    if (source->is_pad || target->is_pad)
+        return ERR;
+    if (bottom < top || end < left)
+        return OK;
+    return copywin(source, target, top + down, left + right, top, left, bottom, end, overlaid);
+}
+
 int overlay(const WINDOW *source, WINDOW *target)
 {
     if (!source || !target || source->screen != target->screen)
         return ERR;
+    if (source->is_over || target->is_over)
+        return copy_common(source, target, true);
     return changed(target, answer(huttavel_overlay(handle_of(source), source->number, target->number)));
 }
 
@@ -236,6 +306,8 @@ int overwrite(const WINDOW *source, WINDOW *target)
 {
     if (!source || !target || source->screen != target->screen)
         return ERR;
+    if (source->is_over || target->is_over)
+        return copy_common(source, target, false);
     return changed(target, answer(huttavel_overwrite(handle_of(source), source->number, target->number)));
 }
 

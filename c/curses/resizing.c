@@ -38,7 +38,7 @@ static struct plan plan_of(const WINDOW *window, const struct plan *parent, int 
         plan.columns.begin = window->parent_column;
         plan.rows = fitted(plan.rows, window->parent->rows, parent->rows.length);
         plan.columns = fitted(plan.columns, window->parent->columns, parent->columns.length);
-    } else if (!window->is_pad) {
+    } else if (!is_held_as_pad(window)) {
         plan.rows.begin = getbegy(window);
         plan.columns.begin = getbegx(window);
         plan.rows = fitted(plan.rows, screen->rows, left);
@@ -102,8 +102,9 @@ static uint32_t make_again(const WINDOW *window, huttavel *to, uint32_t parent, 
         return HUTTAVEL_OK;
     }
     if (window->parent)
-        return (window->is_pad ? huttavel_sub_pad : huttavel_derive)(to, parent, rows, columns, row, column, made);
-    if (window->is_pad)
+        return (is_held_as_pad(window) ? huttavel_sub_pad : huttavel_derive)(to, parent, rows, columns, row, column,
+                                                                             made);
+    if (is_held_as_pad(window))
         return huttavel_new_pad(to, rows, columns, made);
     return huttavel_new_window(to, rows, columns, row + (uint32_t)window->screen->above, column, made);
 }

@@ -88,6 +88,8 @@ struct huttavel_curses_window {
     bool is_immediate;         /* immedok() */
     bool is_synced;            /* syncok() */
     bool is_pad;
+    bool is_over;              /* it reaches over the edge of the screen: a pad of the handle, at this place of stdscr */
+    int row, column;
     bool has_part;             /* of a pad: a part of it was copied to the virtual screen */
     int part[6];               /* what pnoutrefresh() was told last */
     bool has_moved;            /* the cursor was moved since the window was copied last */

@@ -52,25 +52,55 @@ static WINDOW *new_window(SCREEN *screen, int rows, int columns, int row, int co
                                                    (uint32_t)column, &window->number));
 }
 
+/* A pad of the handle; NULL if it cannot be made. */
+static WINDOW *new_pad(SCREEN *screen, int rows, int columns)
+{
+    WINDOW *pad = spare_window(screen);
+
+    if (!pad)
+        return NULL;
+    return kept_window(pad, huttavel_new_pad(&screen->handle, (uint32_t)rows, (uint32_t)columns, &pad->number));
+}
+
+/* A window that reaches over the edge of the screen. */
+static WINDOW *window_over_edge(SCREEN *screen, int rows, int columns, int row, int column)
+{
+    WINDOW *window = new_pad(screen, rows, columns);
+
+    if (!window)
+        return NULL;
+    window->is_over = true;
+    window->row = row;
+    window->column = column;
+    return window;
+}
+
 WINDOW *newwin(int rows, int columns, int row, int column)
 {
-    if (!current || rows < 0 || columns < 0 || row < 0 || column < 0 || row >= current->rows ||
-        rows > current->rows - row)
+    if (!current || rows < 0 || columns < 0 || row < 0 || column < 0)
         return NULL;
-    return new_window(current, rows ? rows : current->rows - row, columns, row + current->above, column);
+    rows = rows ? rows : current->rows - row;
+    columns = columns ? columns : current->columns - column;
+    if (rows <= 0 || columns <= 0)
+        return NULL;
+    if (rows > current->rows - row || columns > current->columns - column)
+        return window_over_edge(current, rows, columns, row, column);
+    return new_window(current, rows, columns, row + current->above, column);
 }
 
 WINDOW *newpad(int rows, int columns)
 {
-    WINDOW *pad;
+    WINDOW *pad = current && rows > 0 && columns > 0 ? new_pad(current, rows, columns) : NULL;
 
-    if (!current || rows <= 0 || columns <= 0)
-        return NULL;
-    pad = spare_window(current);
-    if (!pad)
-        return NULL;
-    pad->is_pad = true;
-    return kept_window(pad, huttavel_new_pad(&current->handle, (uint32_t)rows, (uint32_t)columns, &pad->number));
+    if (pad)
+        pad->is_pad = true;
+    return pad;
+}
+
+/* Whether a window is a pad of the handle. */
+static bool is_held_as_pad(const WINDOW *window)
+{
+    return window->is_pad || window->is_over;
 }
 
 /* A subwindow at a row and a column of its parent. */
@@ -88,9 +118,13 @@ static WINDOW *sub_window(WINDOW *parent, int rows, int columns, int row, int co
     window->parent_row = row;
     window->parent_column = column;
     window->is_pad = parent->is_pad;
-    fault = (parent->is_pad ? huttavel_sub_pad : huttavel_derive)(handle_of(parent), parent->number, (uint32_t)rows,
-                                                                  (uint32_t)columns, (uint32_t)row, (uint32_t)column,
-                                                                  &window->number);
+    window->is_over = parent->is_over;
+    window->row = parent->row + row;
+    window->column = parent->column + column;
+    fault = (is_held_as_pad(parent) ? huttavel_sub_pad : huttavel_derive)(handle_of(parent), parent->number,
+                                                                          (uint32_t)rows, (uint32_t)columns,
+                                                                          (uint32_t)row, (uint32_t)column,
+                                                                          &window->number);
     return kept_window(window, fault);
 }
 
@@ -127,10 +161,32 @@ int delwin(WINDOW *window)
     return OK;
 }
 
+/* Moves a window that reached over the edge, and its subwindows, to a place where all of it is on the screen. */
+static int move_over_edge(WINDOW *window, int row, int column)
+{
+    int down = row - window->row, right = column - window->column;
+    WINDOW *each;
+    const WINDOW *above;
+
+    if (window->parent || column < 0 || column > window->screen->columns - window->columns)
+        return ERR;
+    for (each = window->screen->windows; each; each = each->next) {
+        for (above = each; above && above != window; above = above->parent)
+            ;
+        if (above) {
+            each->row += down;
+            each->column += right;
+        }
+    }
+    return touchwin(window);
+}
+
 int mvwin(WINDOW *window, int row, int column)
 {
     if (!window || is_shown(window) || window->ripped || row < 0 || row > window->screen->rows - window->rows)
         return ERR;
+    if (window->is_over)
+        return move_over_edge(window, row, column);
     return answer(huttavel_move_window(handle_of(window), window->number, (uint32_t)(row + window->screen->above),
                                        (uint32_t)column));
 }
@@ -170,6 +226,8 @@ int getcurx(const WINDOW *window)
 /* The row of the screen where a window begins, with the lines that are taken off; ERR of a pad. */
 static int screen_row_of(const WINDOW *window)
 {
+    if (window && window->is_over)
+        return window->row + window->screen->above;
     return is_shown(window) ? 0 : number_read(huttavel_origin, window, false);
 }
 
@@ -182,6 +240,8 @@ int getbegy(const WINDOW *window)
 
 int getbegx(const WINDOW *window)
 {
+    if (window && window->is_over)
+        return window->column;
     return is_shown(window) ? 0 : number_read(huttavel_origin, window, true);
 }
 

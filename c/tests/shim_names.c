@@ -424,6 +424,52 @@ static void finding_places(void)
     IS(OK, delwin(window));
 }
 
+/* A window that reaches over the right and the lower edge: what lies outside of the screen is not shown. */
+static void reaching_over_the_edge(void)
+{
+    WINDOW *window = newwin(6, 12, 20, 74), *inner = derwin(window, 2, 4, 1, 1), *copied = newwin(2, 6, 20, 74);
+    int row, column;
+
+    erase();
+    wnoutrefresh(stdscr);
+    CHECK(window && inner && getmaxy(window) == 6 && getmaxx(window) == 12);
+    CHECK(getbegy(window) == 20 && getbegx(window) == 74 && getbegy(inner) == 21 && getbegx(inner) == 75);
+    for (row = 0; row < 6; row++)
+        IS(OK, mvwaddstr(window, row, 0, "abcdefghijk"));
+    IS(OK, mvwaddstr(inner, 0, 0, "xy"));
+    touchwin(window);
+    wmove(window, 2, 3);
+    IS(OK, wnoutrefresh(window));
+    CHECK(!is_wintouched(window));
+    getsyx(row, column);
+    CHECK(row == 22 && column == 77);
+    CHECK(shown(20, 74) == 'a' && shown(20, 79) == 'f' && shown(23, 79) == 'f' && shown(20, 73) == ' ');
+    CHECK(shown(21, 75) == 'x' && shown(21, 76) == 'y' && shown(22, 75) == 'b');
+    /* Only touched lines are copied, and the cursor may lie outside. */
+    IS(OK, mvaddch(20, 74, 'S'));
+    wnoutrefresh(stdscr);
+    IS(OK, mvwaddch(window, 1, 0, 'Z'));
+    wmove(window, 5, 11);
+    IS(OK, wnoutrefresh(window));
+    CHECK(shown(20, 74) == 'S' && shown(21, 74) == 'Z');
+    IS(OK, overwrite(window, copied));
+    CHECK(mvwinch(copied, 0, 0) == 'a' && mvwinch(copied, 0, 5) == 'f' && mvwinch(copied, 1, 0) == 'Z');
+    IS(OK, redrawwin(window));
+    IS(ERR, mvwin(window, 19, 74));
+    IS(ERR, mvwin(window, 0, -1));
+    IS(OK, mvwin(window, 1, 2));
+    CHECK(getbegy(window) == 1 && getbegx(inner) == 3);
+    IS(OK, wnoutrefresh(window));
+    CHECK(shown(1, 2) == 'a' && shown(6, 12) == 'k' && shown(2, 3) == 'x');
+    IS(OK, delwin(inner));
+    IS(OK, delwin(window));
+    IS(OK, delwin(copied));
+    /* All of it may lie outside, as where the screen has become smaller. */
+    window = newwin(2, 2, 24, 0);
+    CHECK(window && wrefresh(window) == OK && delwin(window) == OK);
+    clear();
+}
+
 static void telling_colours(void)
 {
     short red = 1, green = 1, blue = 1;
@@ -500,7 +546,6 @@ static void refusing_windows(void)
     CHECK(!window_of("huttavel window 1\n1 1 0 0 0 0 0 0 32 0 0 0 0 0 0 0 0 0\n65 65\nend\n"));
     CHECK(!window_of("huttavel window 1\n1 1 0 0 0 0 0 0 32 0 0 0 0 0 0 0 0 0\n65\n"));
     /* A place outside the screen, no cell at all, and more cells than a window has. */
-    CHECK(!window_of("huttavel window 1\n1 1 24 0 0 0 0 0 32 0 0 0 0 0 0 0 0 0\n65\nend\n"));
     CHECK(!window_of("huttavel window 1\n0 1 0 0 0 0 0 0 32 0 0 0 0 0 0 0 0 0\nend\n"));
     CHECK(!window_of("huttavel window 1\n1000 1001 0 0 1 0 0 0 32 0 0 0 0 0 0 0 0 0\n"));
     CHECK(!window_of("huttavel window 1\n99999999999999999999 1 0 0 1 0 0 0 32 0 0 0 0 0 0 0 0 0\n") && !window_of(""));
@@ -623,7 +668,7 @@ static void taking_lines_off(void)
     CHECK(window != NULL && getmaxy(window) == 16 && getbegy(window) == 3);
     IS(OK, mvwin(window, 0, 0));
     IS(ERR, mvwin(window, 4, 0));
-    CHECK(newwin(2, 2, 18, 0) == NULL && wenclose(window, 2, 0) && !wenclose(window, 1, 0));
+    CHECK(wenclose(window, 2, 0) && !wenclose(window, 1, 0));
     CHECK(!wmouse_trafo(stdscr, &row, &column, FALSE) && wmouse_trafo(stdscr, &row, &column, TRUE) && row == 3);
     IS(OK, delwin(window));
     IS(OK, resizeterm(30, 80));
@@ -728,6 +773,7 @@ int main(void)
     redefining_keys();
     using_the_mouse();
     finding_places();
+    reaching_over_the_edge();
     telling_colours();
     default_colours();
     telling_names();
