@@ -545,7 +545,7 @@ static void refusing_windows(void)
     CHECK(!window_of("huttavel window 1\n1 1 0 0 0 1 0 0 32 0 0 0 0 0 0 0 0 0\n65\nend\n"));
     CHECK(!window_of("huttavel window 1\n1 1 0 0 0 0 0 0 32 0 0 0 0 0 0 0 0 0\n65 65\nend\n"));
     CHECK(!window_of("huttavel window 1\n1 1 0 0 0 0 0 0 32 0 0 0 0 0 0 0 0 0\n65\n"));
-    /* A place outside the screen, no cell at all, and more cells than a window has. */
+    /* No cell at all, and more cells than a window has. */
     CHECK(!window_of("huttavel window 1\n0 1 0 0 0 0 0 0 32 0 0 0 0 0 0 0 0 0\nend\n"));
     CHECK(!window_of("huttavel window 1\n1000 1001 0 0 1 0 0 0 32 0 0 0 0 0 0 0 0 0\n"));
     CHECK(!window_of("huttavel window 1\n99999999999999999999 1 0 0 1 0 0 0 32 0 0 0 0 0 0 0 0 0\n") && !window_of(""));
