@@ -8,8 +8,8 @@
  * - all that is about wide characters: cchar_t, add_wch(), addwstr(), bkgrnd(), box_set(), border_set(), get_wch(),
  *   getcchar(), hline_set(), in_wch(), ins_wch(), setcchar(), slk_wset(), unget_wch(), WACS_* and so on;
  * - the calls of term.h: setupterm(), tigetstr(), tparm(), tputs(), putp(), vidattr(), vidputs() and so on;
- * - what only ncurses has, but for the mouse, keys, sizes and default colours: wresize(), init_extended_pair(),
- *   is_keypad(), is_scrollok() and their kin, wgetparent(), use_window(), newscr, TABSIZE and so on.
+ * - what only ncurses has, but for the mouse, keys, sizes and default colours: init_extended_pair(), is_keypad(),
+ *   is_scrollok() and their kin, wgetparent(), use_window(), newscr, TABSIZE and so on.
  */
 #ifndef HUTTAVEL_CURSES_H
 #define HUTTAVEL_CURSES_H
@@ -184,6 +184,7 @@ WINDOW *newpad(int rows, int columns);
 WINDOW *subpad(WINDOW *window, int rows, int columns, int row, int column);
 WINDOW *dupwin(WINDOW *window);
 int delwin(WINDOW *window);
+int wresize(WINDOW *window, int rows, int columns);
 int mvwin(WINDOW *window, int row, int column);
 int mvderwin(WINDOW *window, int row, int column);
 

@@ -308,3 +308,70 @@ int resizeterm(int rows, int columns)
         current->has_new_size = true;
     return OK;
 }
+
+/* Whether a window has subwindows. */
+static bool has_subwindows(const WINDOW *window)
+{
+    const WINDOW *each;
+
+    for (each = window->screen->windows; each; each = each->next)
+        if (each->parent == window)
+            return true;
+    return false;
+}
+
+/* Makes a window of the handle at the place of another one, of this size: an error, or its number. */
+static uint32_t make_in_place(WINDOW *window, int rows, int columns, bool is_over, uint32_t *made)
+{
+    huttavel *handle = handle_of(window);
+
+    if (window->parent)
+        return (is_held_as_pad(window) ? huttavel_sub_pad : huttavel_derive)(
+            handle, window->parent->number, (uint32_t)rows, (uint32_t)columns, (uint32_t)window->parent_row,
+            (uint32_t)window->parent_column, made);
+    if (window->is_pad || is_over)
+        return huttavel_new_pad(handle, (uint32_t)rows, (uint32_t)columns, made);
+    return huttavel_new_window(handle, (uint32_t)rows, (uint32_t)columns, (uint32_t)screen_row_of(window),
+                               (uint32_t)getbegx(window), made);
+}
+
+/* Gives a window without subwindows another size. What fits stays, the rest is background; the region is the whole
+   window again. */
+int wresize(WINDOW *window, int rows, int columns)
+{
+    struct plan plan = {{0, rows}, {0, columns}};
+    huttavel *handle = handle_of(window);
+    huttavel_cell background = {' ', 0, 0};
+    int row, column;
+    uint32_t made;
+    bool is_over;
+
+    if (!window || is_shown(window) || window->ripped || rows <= 0 || columns <= 0 || has_subwindows(window))
+        return ERR;
+    row = window->is_pad ? 0 : getbegy(window);
+    column = window->is_pad ? 0 : getbegx(window);
+    is_over = window->parent ? window->is_over
+                             : !window->is_pad && (rows > window->screen->rows - row ||
+                                                   columns > window->screen->columns - column);
+    if (make_in_place(window, rows, columns, is_over, &made) != HUTTAVEL_OK)
+        return ERR;
+    if (!window->parent) {
+        huttavel_background(handle, window->number, &background);
+        huttavel_set_background(handle, made, background.byte, background.attrs, background.pair);
+        huttavel_erase(handle, made);
+        if (huttavel_copy(handle, window->number, made, 0, 0, 0, 0, (uint32_t)least(rows, window->rows) - 1,
+                          (uint32_t)least(columns, window->columns) - 1, false) != HUTTAVEL_OK) {
+            huttavel_delete(handle, made);
+            return ERR;
+        }
+    }
+    copy_settings(window, handle, made, &plan);
+    huttavel_set_region(handle, made, 0, (uint32_t)rows - 1);
+    huttavel_delete(handle, window->number);
+    window->number = made;
+    window->is_over = is_over;
+    window->row = row;
+    window->column = column;
+    read_window(window);
+    return OK;
+}

@@ -157,6 +157,8 @@ int delwin(WINDOW *window)
     *place = window->next;
     if (window->screen->standard == window)
         window->screen->standard = NULL;
+    if (stdscr == window)
+        stdscr = NULL;
     free(window);
     return OK;
 }

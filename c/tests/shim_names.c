@@ -470,6 +470,52 @@ static void reaching_over_the_edge(void)
     clear();
 }
 
+static void resizing_windows(void)
+{
+    WINDOW *window = newwin(3, 6, 2, 4), *inner, *pad = newpad(2, 3);
+    int row, column;
+
+    wbkgd(window, '.' | A_BOLD);
+    scrollok(window, TRUE);
+    wsetscrreg(window, 1, 2);
+    wattrset(window, A_DIM);
+    mvwaddstr(window, 0, 0, "abcdef");
+    wmove(window, 2, 5);
+    IS(OK, wresize(window, 2, 8));
+    CHECK(getmaxy(window) == 2 && getmaxx(window) == 8 && getbegy(window) == 2 && getbegx(window) == 4);
+    getyx(window, row, column);
+    CHECK(row == 1 && column == 5);
+    CHECK(is_linetouched(window, 0) && is_linetouched(window, 1));
+    CHECK(mvwinch(window, 0, 5) == ('f' | A_DIM | A_BOLD) && mvwinch(window, 0, 6) == ('.' | A_BOLD));
+    IS((int)A_DIM, getattrs(window));
+    IS(('.' | A_BOLD), getbkgd(window));
+    /* The region is the whole window: the first line goes. */
+    IS(OK, wscrl(window, 1));
+    IS(('.' | A_BOLD), mvwinch(window, 0, 0));
+    /* A subwindow changes no cell, and keeps the size of its parent. */
+    inner = derwin(window, 1, 2, 1, 1);
+    IS(ERR, wresize(window, 4, 4));
+    IS(ERR, wresize(inner, 2, 2));
+    IS(OK, wresize(inner, 1, 7));
+    mvwaddch(inner, 0, 6, 'z');
+    CHECK(mvwinch(window, 1, 7) == ('z' | A_DIM | A_BOLD));
+    IS(OK, delwin(inner));
+    /* Over the edge and back, and a pad. */
+    IS(OK, wresize(window, 30, 90));
+    CHECK(getmaxy(window) == 30 && getbegy(window) == 2 && mvwinch(window, 1, 7) == ('z' | A_DIM | A_BOLD));
+    IS(OK, mvwaddch(window, 29, 88, 'e'));
+    IS(OK, wresize(window, 2, 2));
+    IS(OK, mvwin(window, 22, 78));
+    IS(ERR, wresize(window, 0, 2));
+    IS(ERR, wresize(NULL, 2, 2));
+    mvwaddstr(pad, 1, 0, "pq");
+    IS(OK, wresize(pad, 40, 100));
+    CHECK(mvwinch(pad, 1, 1) == 'q' && mvwinch(pad, 39, 99) == ' ');
+    IS(ERR, wresize(pad, 2000, 2000));
+    IS(OK, delwin(pad));
+    IS(OK, delwin(window));
+}
+
 static void telling_colours(void)
 {
     short red = 1, green = 1, blue = 1;
@@ -774,6 +820,7 @@ int main(void)
     using_the_mouse();
     finding_places();
     reaching_over_the_edge();
+    resizing_windows();
     telling_colours();
     default_colours();
     telling_names();
