@@ -1,4 +1,6 @@
 //! Lines about a picture.
+ghost use Rattle.std.specs.Prelude.{IfOk, IfSome};
+ghost use Rattle.scr_cells.specs.PenViews.{IsColour};
 
 use crate::subjects::Subjects;
 use crate::terminals::add_size;
@@ -131,7 +133,9 @@ fn set_pair_of(picture: &mut Picture, words: &mut Words<'_>) -> Result<(), Troub
 }
 
 // A colour, or `-` for the default one.
-fn colour(words: &mut Words<'_>) -> Result<Option<u8>, Trouble> {
+fn colour(words: &mut Words<'_>) -> Result<Option<u8>, Trouble>
+    ensures { IfOk result (λ colour. IfSome colour IsColour) }
+{
     if words.peek() == b"-".as_slice() {
         let _dash = words.next();
         return Ok(None);
