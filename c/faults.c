@@ -49,6 +49,12 @@ static const saying sayings[] = {
     {HUTTAVEL_BAD_STRING, "bad string"},
     {HUTTAVEL_LONG_STRING, "long string"},
     {HUTTAVEL_KEY_TOO_LONG, "a key's text is too long"},
+    {HUTTAVEL_ABSENT, "no such capability"},
+    {HUTTAVEL_CUT_DIRECTIVE, "truncated directive"},
+    {HUTTAVEL_BAD_DIRECTIVE, "bad directive"},
+    {HUTTAVEL_STRING_OPERATOR, "string operator"},
+    {HUTTAVEL_TOO_DEEP, "conditionals nested too deep"},
+    {HUTTAVEL_STACK_FULL, "stack full"},
 };
 
 const char *huttavel_fault_text(uint32_t fault)

@@ -125,6 +125,26 @@ reply huttavel_held_pair_colours(huttavel *handle, uint32_t pair);
 reply huttavel_held_wanted_cell(huttavel *handle, uint32_t row, uint32_t column);
 reply huttavel_held_wanted_cursor(huttavel *handle);
 
+/* What a call gives that copies a text: a fault's number, and the length of the text. */
+typedef struct length_reply {
+    uint32_t fault;
+    size_t count;
+} length_reply;
+
+/* The parameters of a text: nine fields in the proved library. */
+typedef struct parameters {
+    int32_t numbers[9];
+} parameters;
+
+reply huttavel_held_entry_open(huttavel *handle, const uint8_t *entry, size_t length);
+reply huttavel_held_entry_flag(huttavel *handle, uint16_t position);
+reply huttavel_held_entry_number(huttavel *handle, uint16_t position);
+length_reply huttavel_held_entry_text(huttavel *handle, uint16_t position, uint8_t *bytes, size_t room);
+length_reply huttavel_held_entry_names(huttavel *handle, uint8_t *bytes, size_t room);
+reply huttavel_held_capability(const uint8_t *name, size_t length);
+length_reply huttavel_held_parameters(huttavel *handle, const uint8_t *text, size_t length, const parameters *given,
+                                      uint8_t *bytes, size_t room);
+
 /* Whether a handle is NULL or closed. */
 static inline bool is_closed(const huttavel *handle)
 {

@@ -126,7 +126,14 @@ enum huttavel_fault {
     HUTTAVEL_BAD_SIZE = 54,     /* the rows or the columns are not 1 to 500 */
     HUTTAVEL_BAD_STRING = 55,   /* a text is not a parameter string, or needs a stack of more than 20 values */
     HUTTAVEL_LONG_STRING = 56,  /* a text may give more than 1,024 bytes */
-    HUTTAVEL_KEY_TOO_LONG = 57  /* a key's text has more than 64 bytes */
+    HUTTAVEL_KEY_TOO_LONG = 57, /* a key's text has more than 64 bytes */
+    /* Of an entry and of parameter strings. */
+    HUTTAVEL_ABSENT = 58,          /* the entry has no such capability, or there is none of this name */
+    HUTTAVEL_CUT_DIRECTIVE = 60,   /* the text ends inside a directive */
+    HUTTAVEL_BAD_DIRECTIVE = 61,   /* there is no such directive, or it cannot be there */
+    HUTTAVEL_STRING_OPERATOR = 62, /* `%s` or `%l`: no parameter is a text */
+    HUTTAVEL_TOO_DEEP = 63,        /* a 33rd conditional is open at once */
+    HUTTAVEL_STACK_FULL = 64       /* the text pushes a 21st value */
 };
 
 /* A capability of an entry: its kind, and its position in the table of term(5). */
@@ -218,8 +225,9 @@ uint32_t huttavel_key_idle(huttavel *handle);
 /* Takes the first key of the queue. Refused: HUTTAVEL_NO_KEY, which is not the end of the input. */
 uint32_t huttavel_next_key(huttavel *handle, huttavel_key *key);
 
-/* The calls on windows. */
+/* The calls on windows, and those on entries. */
 #include "huttavel_windows.h"
+#include "huttavel_entries.h"
 
 #ifdef __cplusplus
 }

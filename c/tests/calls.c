@@ -147,6 +147,103 @@ static void entries(void)
     IS(HUTTAVEL_BAD_MAGIC, huttavel_open(&handle, file, length, 0, 0, NULL));
 }
 
+/* Whether a text with these two numbers gives those bytes. */
+static bool gives(huttavel *entry, const char *text, int32_t first, int32_t second, const char *wanted)
+{
+    const int32_t numbers[9] = {first, second, 0, 0, 0, 0, 0, 0, 0};
+    uint8_t bytes[64];
+    size_t count = 0;
+
+    return huttavel_parameters(entry, (const uint8_t *)text, strlen(text), numbers, bytes, sizeof bytes, &count) ==
+               HUTTAVEL_OK &&
+           count == strlen(wanted) && memcmp(bytes, wanted, count) == 0;
+}
+
+/* Why a text is refused. */
+static uint32_t refusal(huttavel *entry, const char *text)
+{
+    const int32_t numbers[9] = {0};
+    size_t count = 77;
+    uint32_t fault = huttavel_parameters(entry, (const uint8_t *)text, strlen(text), numbers, NULL, 0, &count);
+
+    CHECK(fault == HUTTAVEL_OK || count == 77);
+    return fault;
+}
+
+/* An entry in a handle, and parameter strings. */
+static void described(huttavel *screen)
+{
+    huttavel entry = HUTTAVEL_CLOSED_HANDLE;
+    huttavel_capability which = {9, 9};
+    const uint8_t flags[5] = {0, 1, 0, 0, 0};
+    const int numbers[3] = {30, -1, 10};
+    const char *strings[11] = {NULL};
+    uint8_t file[1024], bytes[40];
+    size_t length, count = 0;
+    uint32_t number = 7;
+    bool flag = false;
+
+    strings[5] = "\033[H$<5>";
+    strings[10] = "\033[%i%p1%d;%p2%dH";
+    length = compiled(file, 0, flags, 5, numbers, 3, strings, 11);
+    IS(HUTTAVEL_CLOSED, huttavel_entry_open(NULL, file, length));
+    IS(HUTTAVEL_CLOSED, huttavel_entry_number(&entry, 0, &number));
+    IS(HUTTAVEL_BAD_LENGTH, huttavel_entry_open(&entry, NULL, 1));
+    IS(HUTTAVEL_TRUNCATED, huttavel_entry_open(&entry, file, length - 1));
+    /* No screen can be opened on it: a flag that is set is `am`. */
+    IS(HUTTAVEL_OK, huttavel_entry_open(&entry, file, length));
+    IS(HUTTAVEL_IS_OPEN, huttavel_entry_open(&entry, file, length));
+    CHECK(huttavel_is_open(&entry));
+    IS(HUTTAVEL_OK, huttavel_entry_flag(&entry, 1, &flag));
+    CHECK(flag);
+    IS(HUTTAVEL_OK, huttavel_entry_flag(&entry, 70000, &flag));
+    CHECK(!flag);
+    IS(HUTTAVEL_OK, huttavel_entry_number(&entry, 2, &number));
+    CHECK(number == 10);
+    IS(HUTTAVEL_ABSENT, huttavel_entry_number(&entry, 1, &number));
+    IS(HUTTAVEL_ABSENT, huttavel_entry_number(&entry, 65536, &number));
+    CHECK(number == 10);
+    /* A text with its padding; as much of it as there is room for. */
+    memset(bytes, '.', sizeof bytes);
+    IS(HUTTAVEL_OK, huttavel_entry_text(&entry, 5, bytes, sizeof bytes, &count));
+    CHECK(count == 7 && memcmp(bytes, "\033[H$<5>.", 8) == 0);
+    memset(bytes, '.', sizeof bytes);
+    IS(HUTTAVEL_OK, huttavel_entry_text(&entry, 5, bytes, 2, NULL));
+    CHECK(memcmp(bytes, "\033[.", 3) == 0);
+    IS(HUTTAVEL_OK, huttavel_entry_text(&entry, 10, NULL, 9, &count));
+    CHECK(count == strlen(strings[10]));
+    IS(HUTTAVEL_ABSENT, huttavel_entry_text(&entry, 6, bytes, sizeof bytes, &count));
+    IS(HUTTAVEL_OK, huttavel_entry_names(&entry, bytes, sizeof bytes, &count));
+    CHECK(count == 16 && memcmp(bytes, "trial|for a test", 16) == 0);
+    IS(HUTTAVEL_OK, huttavel_capability_named((const uint8_t *)"cup", 3, &which));
+    CHECK(which.kind == HUTTAVEL_TEXT && which.position == 10);
+    IS(HUTTAVEL_OK, huttavel_capability_named((const uint8_t *)"lines", 5, &which));
+    CHECK(which.kind == HUTTAVEL_NUMBER && which.position == 2);
+    IS(HUTTAVEL_OK, huttavel_capability_named((const uint8_t *)"am", 2, &which));
+    CHECK(which.kind == HUTTAVEL_FLAG && which.position == 1);
+    IS(HUTTAVEL_ABSENT, huttavel_capability_named((const uint8_t *)"nothing", 7, &which));
+    IS(HUTTAVEL_BAD_LENGTH, huttavel_capability_named(NULL, 7, &which));
+    /* Parameter strings, terminfo(5): a variable of capital letters lasts. */
+    CHECK(gives(&entry, strings[10], 4, 9, "\033[5;10H"));
+    CHECK(gives(&entry, "%p1%{10}%>%tmany%eFew%;$<3>", 11, 0, "many$<3>"));
+    CHECK(gives(&entry, "%p1%PA%p2%Pb%gb%d", 21, 5, "5"));
+    CHECK(gives(&entry, "%gA%d%gb%d", 0, 0, "210"));
+    CHECK(gives(&entry, "", 0, 0, ""));
+    IS(HUTTAVEL_CUT_DIRECTIVE, refusal(&entry, "ab%p"));
+    IS(HUTTAVEL_BAD_DIRECTIVE, refusal(&entry, "%q"));
+    IS(HUTTAVEL_STRING_OPERATOR, refusal(&entry, "%p1%s"));
+    IS(HUTTAVEL_STACK_FULL, refusal(&entry, "%p1%p1%p1%p1%p1%p1%p1%p1%p1%p1%p1%p1%p1%p1%p1%p1%p1%p1%p1%p1%p1"));
+    IS(HUTTAVEL_BAD_LENGTH, huttavel_parameters(&entry, file, 3, NULL, bytes, 1, NULL));
+    /* A screen is no entry, and an entry no screen. */
+    IS(HUTTAVEL_CLOSED, huttavel_entry_flag(screen, 1, &flag));
+    IS(HUTTAVEL_CLOSED, refusal(screen, "a"));
+    IS(HUTTAVEL_CLOSED, huttavel_erase(&entry, 0));
+    IS(HUTTAVEL_CLOSED, huttavel_doupdate(&entry));
+    CHECK(huttavel_waiting(&entry) == 0 && huttavel_bytes(&entry, bytes, sizeof bytes) == 0);
+    IS(HUTTAVEL_OK, huttavel_close(&entry));
+    IS(HUTTAVEL_CLOSED, refusal(&entry, "a"));
+}
+
 static void making(huttavel *handle)
 {
     uint32_t window = 9, sub = 9, pad = 9, part = 9, row = 9, column = 9, count = 0, parent = 9;
@@ -391,6 +488,7 @@ int main(void)
     entries();
     IS(HUTTAVEL_OK, huttavel_open_bundled(&handle, 24, 80));
     IS(HUTTAVEL_OK, huttavel_open_bundled(&other, 3, 4));
+    described(&other);
     making(&handle);
     writing(&handle);
     touching(&handle);

@@ -1,2 +1,2 @@
-mod LentSessions
+mod LentLaws
 mod Shapes

@@ -1,4 +1,4 @@
--- The machine values of a held session and of the parts of a box, and what each owns.
+-- The machine values of what is held and of the parts of a box, and what each owns.
 use Rattle.std.proofs.Common.{◌≡◌, ℕ, List, [], ◌∷◌, ◌++◌, refl, sym, subst}
 use mathlib.Core.Bool.{true, ◌&&◌}
 use lib.Dec.{T}
@@ -31,14 +31,14 @@ use Rattle.std.proofs.ResultValues.{and_tt}
 use Rattle.huttavel_c.specs.Holding.{maybe_owns}
 use Rattle.huttavel_c.specs.contracts.held.Held as held
 use Rattle.huttavel_c.specs.contracts.parts.Parts as parts
-use Rattle.huttavel_c.specs.contracts.sessions.Session as session
+use Rattle.huttavel_c.specs.contracts.sessions.Kept as kept
 
 -- What is there is found.
 pub found : {X : Type 0} (o : Option X) → IsSome o → (x : X) × (o ≡ Some x)
 found (Some x) some = (x, refl)
 found None some = absurd (subst T (sym some) tt)
 
--- A held session is one word, its address.
+-- What is held is one word, its address.
 abbrev pub word : Ptr → Val
 word p = vstruct (vcons (ptr_val p) vnil)
 
@@ -51,16 +51,16 @@ pub two_typed : (Z : RattleType) (b o : ℕ) (h : Val) → Good (layout Z) h →
 two_typed Z b o h good = (and_tt (has_ty (layout Z) h) good.0, (tt, (good.1, tt)))
 
 module _ {M : Type 1} {𝓤 : Ura M} {𝓛 : Logic 𝓤} {K : Type 0} {Γ : List (Item 𝓤)} {G : Goal 𝓤 𝓛.H} where
-  -- The address, and what is owned there, make a held session.
-  pub held_in : K → (p : Ptr) (x : Option session.the_row.Denot)
-      → Step K 𝓛 (‵ (held.the_row.own_val (record { at = p; value = x }) (word p ∷ [])) ∷ Γ) G (‵ (maybe_owns session.the_row p x) ∷ Γ) G
+  -- The address, and what is owned there, make what is held.
+  pub held_in : K → (p : Ptr) (x : Option kept.the_row.Denot)
+      → Step K 𝓛 (‵ (held.the_row.own_val (record { at = p; value = x }) (word p ∷ [])) ∷ Γ) G (‵ (maybe_owns kept.the_row p x) ∷ Γ) G
   held_in t p x = step (λ s. nothing t $ feq_i t (List Val) (ptr_val p ∷ []) (ptr_val p ∷ []) refl $ fjoin t $
       feq_i t (List Val) (word p ∷ []) (word p ∷ []) refl $ fjoin t $
       fpack t (Valss (RawPtr ∷ [])) (within (shape held.the_type) (p, tt) (word p ∷ [])) (ptr_val p ∷ [], tt) $ fjoin t $ s)
 
-  -- A held session is its address, and what is owned there.
+  -- What is held is its address, and what is owned there.
   pub held_out : K → (h : held.the_row.Denot) (vs : List Val)
-      → (vs ≡ word h.at ∷ [] → Seq K 𝓛 (‵ (maybe_owns session.the_row h.at h.value) ∷ Γ) G)
+      → (vs ≡ word h.at ∷ [] → Seq K 𝓛 (‵ (maybe_owns kept.the_row h.at h.value) ∷ Γ) G)
       → Seq K 𝓛 (‵ (held.the_row.own_val h vs) ∷ Γ) G
   held_out t h vs k = fsplit t $ fpick t (λ vss. fsplit t $ feq_l t (λ whole. fsplit t $ feq_l t (λ part. drop t $
       k (subst (λ (ws : List Val). vs ≡ vstruct (of_list (ws ++ [])) ∷ []) part whole))))

@@ -10,7 +10,7 @@ use Rattle.ti_caps.specs.Description.{Description}
 use Rattle.ti_caps.specs.declared.table.Kind.{Kind}
 use Rattle.ti_caps.specs.declared.table.Kind.TheVariants.{Flag, Number, Text}
 use Rattle.ti_caps.specs.declared.table.Slot.{Slot}
-use Rattle.ti_database.specs.Search.{entry_refusal}
+use Rattle.ti_database.specs.Search.{IsEntry, entry_refusal}
 use Rattle.curses.specs.Opening.{IsOpened, IsUnopened}
 use Rattle.curses.specs.declared.faults.OpenFault.{OpenFault}
 use Rattle.curses.specs.declared.faults.OpenFault.TheVariants.{KeyTooLong, NoMemory, Profile}
@@ -19,6 +19,7 @@ use Rattle.huttavel_c.specs.Replies.{refused}
 use Rattle.curses.specs.Writers.{WriterView}
 use Rattle.huttavel_c.specs.Sending.{writer}
 use Rattle.huttavel_c.specs.declared.answers.Reply.{Reply}
+use Rattle.huttavel_c.specs.declared.sessions.Kept.{Kept}
 use Rattle.huttavel_c.specs.declared.sessions.Session.{Session}
 
 -- The number of a kind of capabilities.
@@ -103,12 +104,16 @@ IsClosedFrom IsKnown IsNone rows columns reply =
 abbrev pub IsNoMemory : Reply → Type 0
 IsNoMemory reply = reply ≡ refused 4
 
--- A handle that is open stays as it is. A closed one gets a session, or stays closed.
-abbrev pub Opens : (Session → Type 0) → (Reply → Type 0) → Option Session → Option Session → Reply → Type 0
+-- There is no entry; or there is one, and memory ran out for what a handle holds.
+abbrev pub IsNoEntryOrMemory : List ℕ → Reply → Type 0
+IsNoEntryOrMemory bytes reply = IsNoEntry bytes reply ⊎ ((entry : Description) × IsEntry bytes entry × IsNoMemory reply)
+
+-- A handle that is open stays as it is. A closed one gets what is made, or stays closed.
+abbrev pub Opens : (Kept → Type 0) → (Reply → Type 0) → Option Kept → Option Kept → Reply → Type 0
 Opens IsMade IsNotMade (Some old) new reply = (new ≡ Some old) × (reply ≡ refused 2)
-Opens IsMade IsNotMade None new reply = MatchOption new (IsNotMade reply) (λ session. IsMade session × (reply ≡ refused 0))
+Opens IsMade IsNotMade None new reply = MatchOption new (IsNotMade reply) (λ kept. IsMade kept × (reply ≡ refused 0))
 
 -- The number that closing gives.
-abbrev pub close_number : Option Session → ℕ
+abbrev pub close_number : Option Kept → ℕ
 close_number None = 1
-close_number (Some session) = 0
+close_number (Some kept) = 0

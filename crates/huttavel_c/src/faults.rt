@@ -1,9 +1,11 @@
 //! The numbers of errors, as `enum huttavel_fault` has them.
 ghost use Rattle.std.specs.Prelude.{◌≡◌};
+ghost use Rattle.huttavel_c.specs.Entries.{param_number};
 ghost use Rattle.huttavel_c.specs.Numbers.{binary_number, key_number, profile_number, send_number, update_number, window_number};
 
 use curses::{KeyFault, ProfileFault, SendFault, UpdateFault, WinFault};
 use ti_binary::BinFault;
+use ti_param::ParamFault;
 
 /// The handle is closed.
 pub(crate) const CLOSED: u32 = 1;
@@ -31,6 +33,10 @@ pub(crate) const NOT_WAITING: u32 = 33;
 pub(crate) const BAD_SIZE: u32 = 54;
 /// A key's text is too long.
 pub(crate) const KEY_TOO_LONG: u32 = 57;
+/// There is no such capability.
+pub(crate) const ABSENT: u32 = 58;
+/// A parameter string pushes a 21st value.
+pub(crate) const STACK_FULL: u32 = 64;
 
 /// The number of a refusal of a window call.
 pub(crate) fn window_number(fault: WinFault) -> u32
@@ -99,6 +105,19 @@ pub(crate) fn binary_number(fault: BinFault) -> u32
         BinFault::BadOffset => 45,
         BinFault::Unended => 46,
         BinFault::NoMemory => NO_MEMORY,
+    }
+}
+
+/// The number of an error in a parameter string.
+pub(crate) fn param_number(fault: ParamFault) -> u32
+    ensures { result ≡ param_number fault }
+{
+    match fault {
+        ParamFault::Truncated(_) => 60,
+        ParamFault::BadDirective(_) => 61,
+        ParamFault::StringOperator(_) => 62,
+        ParamFault::TooDeep => 63,
+        ParamFault::NoMemory => NO_MEMORY,
     }
 }
 

@@ -1,30 +1,30 @@
-//! A session in memory of its own, as C can hold it: by its address.
+//! What a handle holds, in memory of its own, as C can hold it: by its address.
 ghost use Rattle.std.specs.Prelude.{◌≡◌, Option, Some, None, IsSome};
 ghost use Rattle.std.specs.Coded.{coded_option};
-ghost use Rattle.huttavel_c.specs.contracts.sessions.Session as the_session;
-ghost use Rattle.huttavel_c.specs.declared.sessions.Session.{Session};
+ghost use Rattle.huttavel_c.specs.contracts.sessions.Kept as the_kept;
+ghost use Rattle.huttavel_c.specs.declared.sessions.Kept.{Kept};
 
 use crate::parts::Parts;
-use crate::sessions::Session;
+use crate::sessions::Kept;
 use std::alloc::Global;
 use std::marker::Model;
 use std::ptr::null_mut;
 
-/// A session, or nothing, by its address. It owns the session.
+/// What a handle holds, or nothing, by its address. It owns what is there.
 #[repr(C)]
 #[derive(Drop)]
 pub struct Held {
     pub(crate) at: *mut u8,
-    ghost value: { Option Session } by { coded_option the_session.the_row.coded },
+    ghost value: { Option Kept } by { coded_option the_kept.the_row.coded },
 }
 
 impl Model for Held {
     ghost use Rattle.std.specs.Prelude.{Option};
     ghost use Rattle.huttavel_c.specs.Holding.{maybe_owns};
-    ghost use Rattle.huttavel_c.specs.contracts.sessions.Session as session;
-    ghost use Rattle.huttavel_c.specs.declared.sessions.Session.{Session};
+    ghost use Rattle.huttavel_c.specs.contracts.sessions.Kept as kept;
+    ghost use Rattle.huttavel_c.specs.declared.sessions.Kept.{Kept};
 
-    ghost also_owns = { λ h. maybe_owns session.the_row h.at h.value };
+    ghost also_owns = { λ h. maybe_owns kept.the_row h.at h.value };
 }
 
 impl Held {
@@ -36,15 +36,15 @@ impl Held {
         Held { at }
     }
 
-    // A session.
-    pub(crate) fn of(session: Box<Session>) -> Held
-        ensures { result.value ≡ Some session.value }
+    // What is to be held.
+    pub(crate) fn of(kept: Box<Kept>) -> Held
+        ensures { result.value ≡ Some kept.value }
     {
-        Held::of_parts(Parts::of(session))
+        Held::of_parts(Parts::of(kept))
     }
 
-    // The session that it holds.
-    pub(crate) fn into_box(self, alloc: Global) -> Box<Session>
+    // What it holds.
+    pub(crate) fn into_box(self, alloc: Global) -> Box<Kept>
         requires { IsSome self.value }
         ensures { self.value ≡ Some result.value }
     {
@@ -52,7 +52,7 @@ impl Held {
     }
 
     // What the parts of a box own.
-    fn of_parts(parts: Parts<Session, Global>) -> Held
+    fn of_parts(parts: Parts<Kept, Global>) -> Held
         ensures { result.value ≡ Some parts.value }
     {
         let Parts { at, alloc: _ } = parts;
@@ -61,12 +61,12 @@ impl Held {
     }
 
     // The parts of a box again.
-    fn into_parts(self, alloc: Global) -> Parts<Session, Global>
+    fn into_parts(self, alloc: Global) -> Parts<Kept, Global>
         requires { IsSome self.value }
         ensures { self.value ≡ Some result.value }
     {
         let Held { at } = self;
-        let at = at as *mut Session;
+        let at = at as *mut Kept;
         Parts { at, alloc }
     }
 }

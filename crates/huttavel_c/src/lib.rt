@@ -4,6 +4,7 @@
 
 mod answers;
 mod calls;
+mod entries;
 mod faults;
 mod handles;
 mod held;
@@ -15,4 +16,5 @@ mod sending;
 mod sessions;
 
 pub use answers::Reply;
+pub use entries::{Length, Numbers};
 pub use handles::Handle;

@@ -2,6 +2,7 @@
 ghost use Rattle.std.specs.Prelude.{◌≡◌, IfErr, IfOk, None, Some};
 ghost use Rattle.ti_caps.specs.Bundled.{IsBundled};
 ghost use Rattle.ti_database.specs.Search.{IsEntry};
+ghost use Rattle.huttavel_c.specs.Asking.{OfScreen};
 ghost use Rattle.huttavel_c.specs.Opening.{IsClosedFrom, IsNoEntry, IsNoMemory, IsNoSize, IsOpenedFrom, IsOpenedOn, IsSizeGiven, IsUnopenedOn, Opens, about, close_number, fresh_writer, kind_number, open_reply, profile_reply};
 ghost use Rattle.huttavel_c.specs.Replies.{refused};
 ghost use Rattle.huttavel_c.specs.Sending.{writer};
@@ -11,7 +12,7 @@ use crate::faults::{
     BAD_SIZE, CLOSED, IS_OPEN, KEY_TOO_LONG, NO_MEMORY, binary_number, profile_number,
 };
 use crate::handles::Handle;
-use crate::sessions::Session;
+use crate::sessions::{Kept, Session};
 use curses::{Device, Entry, Kind, OpenFault, ProfileFault, Screen, Size, Slot, bundled};
 use std::alloc::Global;
 use ti_database::read_entry;
@@ -31,7 +32,7 @@ fn size_given(rows: u32, columns: u32) -> Result<Option<Size>, Reply>
 }
 
 // The entry of a compiled file, in either format.
-fn entry_of(alloc: Global, bytes: &[u8]) -> Result<Entry, Reply>
+pub(crate) fn entry_of(alloc: Global, bytes: &[u8]) -> Result<Entry, Reply>
     ensures ok { IfOk result (IsEntry bytes.now) }
     ensures err { IfErr result (IsNoEntry bytes.now) }
 {
@@ -42,7 +43,7 @@ fn entry_of(alloc: Global, bytes: &[u8]) -> Result<Entry, Reply>
 }
 
 // The bundled entry.
-fn bundled_entry(alloc: Global) -> Result<Entry, Reply>
+pub(crate) fn bundled_entry(alloc: Global) -> Result<Entry, Reply>
     ensures ok { IfOk result IsBundled }
     ensures err { IfErr result IsNoMemory }
 {
@@ -53,7 +54,7 @@ fn bundled_entry(alloc: Global) -> Result<Entry, Reply>
 }
 
 // The number of a kind.
-fn kind_number(kind: Kind) -> u32
+pub(crate) fn kind_number(kind: Kind) -> u32
     ensures { result ≡ kind_number kind }
 {
     match kind {
@@ -100,36 +101,42 @@ fn open_reply(fault: OpenFault) -> Reply
     }
 }
 
-// A session on a screen, for which no bytes wait.
-fn session_on(alloc: Global, screen: Screen) -> Result<Box<Session>, Reply>
-    ensures screen { IfOk result (λ session. session.value.screen ≡ screen) }
-    ensures writer { IfOk result (λ session. writer session.value ≡ fresh_writer) }
+// What a handle is to hold, in memory of its own.
+pub(crate) fn boxed(alloc: Global, kept: Kept) -> Result<Box<Kept>, Reply>
+    ensures ok { IfOk result (λ it. it.value ≡ kept) }
     ensures err { IfErr result IsNoMemory }
 {
-    let session = Session {
-        screen,
-        out: Device::new(Vec::new(alloc)),
-    };
-    match Box::new(alloc, session) {
-        Ok(session) => Ok(session),
+    match Box::new(alloc, kept) {
+        Ok(kept) => Ok(kept),
         Err(_) => Err(refused(NO_MEMORY)),
     }
 }
 
+// A session on a screen, for which no bytes wait.
+fn session_on(alloc: Global, screen: Screen) -> Session
+    ensures screen { result.screen ≡ screen }
+    ensures writer { writer result ≡ fresh_writer }
+{
+    Session {
+        screen,
+        out: Device::new(Vec::new(alloc)),
+    }
+}
+
 // A session on the terminal of an entry.
-fn opened_on(alloc: Global, entry: &Entry, size: Option<Size>) -> Result<Box<Session>, Reply>
-    ensures ok { IfOk result (λ session. IsOpenedOn entry.now size session.value) }
+fn opened_on(alloc: Global, entry: &Entry, size: Option<Size>) -> Result<Box<Kept>, Reply>
+    ensures ok { IfOk result (λ kept. OfScreen (IsOpenedOn entry.now size) kept.value) }
     ensures err { IfErr result (IsUnopenedOn entry.now size) }
 {
     match Screen::open(alloc, entry, size) {
-        Ok(screen) => session_on(alloc, screen),
+        Ok(screen) => boxed(alloc, Kept::Screen(session_on(alloc, screen))),
         Err(fault) => Err(open_reply(fault)),
     }
 }
 
 // A session on the terminal of a compiled entry.
-fn opened(alloc: Global, bytes: &[u8], rows: u32, columns: u32) -> Result<Box<Session>, Reply>
-    ensures ok { IfOk result (λ session. IsOpenedFrom (IsEntry bytes.now) rows columns session.value) }
+fn opened(alloc: Global, bytes: &[u8], rows: u32, columns: u32) -> Result<Box<Kept>, Reply>
+    ensures ok { IfOk result (λ kept. OfScreen (IsOpenedFrom (IsEntry bytes.now) rows columns) kept.value) }
     ensures err { IfErr result (IsClosedFrom (IsEntry bytes.now) (IsNoEntry bytes.now) rows columns) }
 {
     let size = size_given(rows, columns)?;
@@ -138,8 +145,8 @@ fn opened(alloc: Global, bytes: &[u8], rows: u32, columns: u32) -> Result<Box<Se
 }
 
 // A session on the terminal of the bundled entry.
-fn opened_bundled(alloc: Global, rows: u32, columns: u32) -> Result<Box<Session>, Reply>
-    ensures ok { IfOk result (λ session. IsOpenedFrom IsBundled rows columns session.value) }
+fn opened_bundled(alloc: Global, rows: u32, columns: u32) -> Result<Box<Kept>, Reply>
+    ensures ok { IfOk result (λ kept. OfScreen (IsOpenedFrom IsBundled rows columns) kept.value) }
     ensures err { IfErr result (IsClosedFrom IsBundled IsNoMemory rows columns) }
 {
     let size = size_given(rows, columns)?;
@@ -148,14 +155,14 @@ fn opened_bundled(alloc: Global, rows: u32, columns: u32) -> Result<Box<Session>
 }
 
 // Puts what was opened into a closed handle.
-fn keep(handle: &mut Handle, opened: Result<Box<Session>, Reply>) -> Reply
+pub(crate) fn keep(handle: &mut Handle, opened: Result<Box<Kept>, Reply>) -> Reply
     requires { handle.old.held.value ≡ None }
-    ensures ok { IfOk opened (λ session. (handle.new.held.value ≡ Some session.value) × (result ≡ refused 0)) }
+    ensures ok { IfOk opened (λ kept. (handle.new.held.value ≡ Some kept.value) × (result ≡ refused 0)) }
     ensures err { IfErr opened (λ reply. (handle.new.held.value ≡ None) × (result ≡ reply)) }
 {
     match opened {
-        Ok(session) => {
-            handle.put(session);
+        Ok(kept) => {
+            handle.put(kept);
             refused(0)
         }
         Err(reply) => reply,
@@ -175,7 +182,7 @@ pub extern "C" fn huttavel_held_open(
     rows: u32,
     columns: u32,
 ) -> Reply
-    ensures { Opens (IsOpenedFrom (IsEntry entry.now) rows columns) (IsClosedFrom (IsEntry entry.now) (IsNoEntry entry.now) rows columns) handle.old.held.value handle.new.held.value result }
+    ensures { Opens (OfScreen (IsOpenedFrom (IsEntry entry.now) rows columns)) (IsClosedFrom (IsEntry entry.now) (IsNoEntry entry.now) rows columns) handle.old.held.value handle.new.held.value result }
 {
     if handle.is_open() {
         return refused(IS_OPEN);
@@ -191,7 +198,7 @@ pub extern "C" fn huttavel_held_open_bundled(
     rows: u32,
     columns: u32,
 ) -> Reply
-    ensures { Opens (IsOpenedFrom IsBundled rows columns) (IsClosedFrom IsBundled IsNoMemory rows columns) handle.old.held.value handle.new.held.value result }
+    ensures { Opens (OfScreen (IsOpenedFrom IsBundled rows columns)) (IsClosedFrom IsBundled IsNoMemory rows columns) handle.old.held.value handle.new.held.value result }
 {
     if handle.is_open() {
         return refused(IS_OPEN);
@@ -205,7 +212,7 @@ pub extern "C" fn huttavel_held_close(alloc: Global, handle: &mut Handle) -> u32
     ensures closed { handle.new.held.value ≡ None }
     ensures answer { result ≡ close_number handle.old.held.value }
 {
-    let Some(_session) = handle.take(alloc) else {
+    let Some(_kept) = handle.take(alloc) else {
         return CLOSED;
     };
     0

@@ -1,12 +1,12 @@
 //! Starts, updates and finishes: the bytes that they make wait until the terminal has accepted them.
-ghost use Rattle.std.specs.Prelude.{◌≡◌, ◌++◌, ◌≤◌, None, drop, length, min, take};
-ghost use Rattle.huttavel_c.specs.Asking.{Asked, Makes};
+ghost use Rattle.std.specs.Prelude.{◌≡◌, ◌++◌, ◌≤◌, ◌⊎◌, None, drop, length, min, take};
+ghost use Rattle.huttavel_c.specs.Asking.{Asked, Makes, OfEntry, OfScreen};
 ghost use Rattle.huttavel_c.specs.Giving.{unchanged};
 ghost use Rattle.huttavel_c.specs.Sending.{Copies, Finishes, Starts, Takes, Updates, Waits, forgetting, sent_number};
 
 use crate::faults::{CLOSED, NOT_WAITING, send_number, update_number};
 use crate::handles::Handle;
-use crate::sessions::Session;
+use crate::sessions::{Kept, Session};
 use curses::SendFault;
 use std::alloc::Global;
 
@@ -68,8 +68,18 @@ fn drop_front(waiting: &mut Vec<u8>, count: usize)
     waiting.truncate(rest);
 }
 
+// Copies bytes that wait for the terminal of a screen.
+fn copy_waiting(kept: &Kept, bytes: &mut [u8]) -> usize
+    ensures screen { OfScreen (λ session. Copies bytes.old bytes.new session session result) kept.now ⊎ (OfEntry (λ _. Unit {0}) kept.now × (result ≡ 0) × (bytes.new ≡ bytes.old)) }
+{
+    match kept {
+        Kept::Screen(session) => copy_front(&session.out.writer, bytes),
+        Kept::Entry(_) => 0,
+    }
+}
+
 // Copies as many bytes as both have.
-fn copy_front(waiting: &[u8], bytes: &mut [u8]) -> usize
+pub(crate) fn copy_front(waiting: &[u8], bytes: &mut [u8]) -> usize
     ensures count { result ≡ min (length waiting.now) (length bytes.old) }
     ensures bytes { bytes.new ≡ take result waiting.now ++ drop result bytes.old }
 {
@@ -119,11 +129,11 @@ pub extern "C" fn huttavel_held_bytes(alloc: Global, handle: &mut Handle, bytes:
     ensures copied { Makes (Copies bytes.old bytes.new) 0 handle.old.held.value handle.new.held.value result }
     ensures closed { handle.old.held.value ≡ None → bytes.new ≡ bytes.old }
 {
-    let Some(session) = handle.take(alloc) else {
+    let Some(kept) = handle.take(alloc) else {
         return 0;
     };
-    let count = copy_front(&session.out.writer, bytes);
-    handle.put(session);
+    let count = copy_waiting(&kept, bytes);
+    handle.put(kept);
     count
 }
 

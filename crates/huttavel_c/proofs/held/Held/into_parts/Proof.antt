@@ -24,7 +24,7 @@ use Rattle.std.specs.contracts.alloc.Global as heap
 use Rattle.std.specs.contracts.impls.GlobalAllocator.TheImpl.{ghosts}
 use Rattle.huttavel_c.specs.Holding.{maybe_owns}
 use Rattle.huttavel_c.specs.contracts.held.Held as held
-use Rattle.huttavel_c.specs.contracts.sessions.Session as session
+use Rattle.huttavel_c.specs.contracts.sessions.Kept as kept
 use Rattle.huttavel_c.proofs.Shapes.{found, word, two, two_typed, held_out, Pieces, placed, parts_in}
 use Rattle.huttavel_c.specs.contracts.held.Held.into_parts.{ended, clauses}
 use Rattle.huttavel_c.specs.contracts.held.Held.into_parts.Key.{name as #self}
@@ -34,7 +34,7 @@ use Rattle.huttavel_c.proofs.held.Held.into_parts.Code as code
 pub into_parts_spec : {M : Type 1} → statement M
 into_parts_spec 𝓤 𝓛 𝓜 𝓡 wired =
     let H = 𝓛.H in let 𝓣 = tables 𝓤 H 𝓜 𝓡 𝓡.env in let fn : Fn = code.function in let c = clauses 𝓛 𝓜.mem 𝓡.returns in
-    let S : RattleType = session.the_row in let G : RattleType = heap.the_row in let LG = heap_laws.the_row_laws in let P : RattleType = Pieces S G LG ghosts in
+    let S : RattleType = kept.the_row in let G : RattleType = heap.the_row in let LG = heap_laws.the_row_laws in let P : RattleType = Pieces S G LG ghosts in
     let al : Al = record { row = G; laws = LG; g = ghosts; d = impl [] tnil dnil; drops = impl [] tnil dnil } in
     let stays : Stays ended.signature.params ended.kept = (stay_dropped (plain (λ _. held.the_row)) ended.kept.0, (stay_dropped (plain (λ _. G)) ended.kept.1.0, tt)) in
     proved_at 𝓛 ended stays c 𝓜 𝓡 (Goes-blank 𝓛 0 (plain (λ _. held.the_row)) ended.kept.0 (λ κs x f. tt), (Goes-blank 𝓛 0 (plain (λ _. G)) ended.kept.1.0 (λ κs x f. tt), tt)) #self fn (code.unfolded 𝓤 H 𝓜 𝓡 wired) (λ z are.

@@ -1,4 +1,4 @@
--- `lend` lends the session at the address, and what is held follows it.
+-- `lend` lends what is at the address, and what is held follows it.
 use Rattle.std.proofs.Common.{◌≡◌, ℕ, List, [], ◌∷◌, refl, sym, subst}
 use mir.Syntax.{named}
 use mir.Val.{Val, vptr}
@@ -32,10 +32,10 @@ use Rattle.std.specs.Prelude.{Option, Some, IsSome}
 use Rattle.std.specs.declared.alloc.Global.{Global}
 use Rattle.std.specs.contracts.alloc.Global as heap
 use Rattle.std.specs.contracts.impls.GlobalAllocator.TheImpl.{ghosts}
-use Rattle.huttavel_c.specs.Following.{with_session}
+use Rattle.huttavel_c.specs.Following.{with_kept}
 use Rattle.huttavel_c.specs.Holding.{maybe_owns}
 use Rattle.huttavel_c.specs.contracts.held.Held as held
-use Rattle.huttavel_c.specs.contracts.sessions.Session as session
+use Rattle.huttavel_c.specs.contracts.sessions.Kept as kept
 use Rattle.huttavel_c.proofs.Shapes.{found, word, held_in, held_out, owned, placed}
 use Rattle.huttavel_c.specs.contracts.held.Held.lend as f
 use Rattle.huttavel_c.proofs.held.Held.lend.Statement.{statement}
@@ -47,17 +47,17 @@ abbrev R : RattleType
 R = held.the_row
 
 abbrev S : RattleType
-S = session.the_row
+S = kept.the_row
 
 abbrev stayed : Stays f.ended.signature.params f.ended.kept
 stayed = (stay_dropped (mut_ref_to (0 ∷ []) tt (plain (λ _. R))) no, tt)
 
--- What stays of what is held while the session is lent.
+-- What stays of what is held while it is lent.
 abbrev Rest : Global → ℕ → ℕ → ℕ → ℕ → Fml
 Rest a b o rb ro = fsep (ghosts.dealloc_token a (bare (lone S.mir)) (block_ptr b o)) (cell_at full_share R.mir (word (block_ptr b o) ∷ []) rb ro)
 
 module _ {M : Type 1} {𝓤 : Ura M} (𝓛 : Logic 𝓤) (h : R.Denot) (a : Global) (b o rb ro : ℕ) where
-  back : h.at ≡ block_ptr b o → (w : S.Denot) → ent 𝓤 (sep 𝓤 (sem 𝓛 ((mem S).own_at w b o)) (sem 𝓛 (Rest a b o rb ro))) (sem 𝓛 ((mem R).own_at (with_session h w) rb ro))
+  back : h.at ≡ block_ptr b o → (w : S.Denot) → ent 𝓤 (sep 𝓤 (sem 𝓛 ((mem S).own_at w b o)) (sem 𝓛 (Rest a b o rb ro))) (sem 𝓛 ((mem R).own_at (with_kept h w) rb ro))
   unfolding part_of
   back at w =
       qed 𝓛 (‵ (part_at S full_share w b o) ∷ ‵ (Rest a b o rb ro) ∷ []) ∵ move ! (1 ∷ []) $ fsplit ! $ move ! (2 ∷ 0 ∷ []) $ fjoin ! $
@@ -65,15 +65,15 @@ module _ {M : Type 1} {𝓤 : Ura M} (𝓛 : Logic 𝓤) (h : R.Denot) (a : Glob
       rewrite ! 1 (λ (p : Ptr). ‵ (cell_at full_share R.mir (word p ∷ []) rb ro)) (sym at) refl $
       fpack ! Global (λ (x : Global). owned S heap.the_row heap_laws.the_row_laws ghosts x h.at w) a $ held_in ! h.at (Some w) $
       move ! (1 ∷ 0 ∷ []) $ fjoin ! $
-      fpack ! (List Val) (λ us. fsep (cell_at full_share R.mir us rb ro) (R.own_val (with_session h w) us)) (word h.at ∷ []) $ done !
+      fpack ! (List Val) (λ us. fsep (cell_at full_share R.mir us rb ro) (R.own_val (with_kept h w) us)) (word h.at ∷ []) $ done !
 
 module _ {M : Type 1} {𝓤 : Ura M} (𝓛 : Logic 𝓤) (𝓜 : Model 𝓤 𝓛.H) (𝓡 : Running 𝓤 𝓛.H 𝓜) (κs : Lfts 1) (qs : Shares 1) (bounds : AllOutlive 1 [] κs) (a : Args f.ended.signature κs) where
   -- The reference, the token and what follows are what the function gives.
   exits : (x : S.Denot) → a.0.now.value ≡ Some x → (b o : ℕ) (γ' : GName)
-      → ent 𝓤 (sep 𝓤 (sem 𝓛 ((MutRef (named 0) κs.0 S).own_val (record { ref_ptr = (b, o); ghost_name = γ'; now = x }) (vptr b o ∷ []))) (sep 𝓤 (𝓛.A.lft κs.0 qs.0) (sem 𝓛 (follows R S a.0.ghost_name γ' (with_session a.0.now)))))
+      → ent 𝓤 (sep 𝓤 (sem 𝓛 ((MutRef (named 0) κs.0 S).own_val (record { ref_ptr = (b, o); ghost_name = γ'; now = x }) (vptr b o ∷ []))) (sep 𝓤 (𝓛.A.lft κs.0 qs.0) (sem 𝓛 (follows R S a.0.ghost_name γ' (with_kept a.0.now)))))
       ((walk_of 𝓛 f.ended stayed (f.clauses 𝓛 𝓜.mem 𝓡.returns)).post ((κs, qs, bounds, a, (mut_vals a.0, tt)), tt) (vptr b o))
   exits x value b o γ' =
-      qed 𝓛 (‵ ((MutRef (named 0) κs.0 S).own_val (record { ref_ptr = (b, o); ghost_name = γ'; now = x }) (vptr b o ∷ [])) ∷ ‵ (flft κs.0 qs.0) ∷ ‵ (follows R S a.0.ghost_name γ' (with_session a.0.now)) ∷ []) ∵
+      qed 𝓛 (‵ ((MutRef (named 0) κs.0 S).own_val (record { ref_ptr = (b, o); ghost_name = γ'; now = x }) (vptr b o ∷ [])) ∷ ‵ (flft κs.0 qs.0) ∷ ‵ (follows R S a.0.ghost_name γ' (with_kept a.0.now)) ∷ []) ∵
       suffices ! _ (ends_at 𝓛 f.ended stayed (f.clauses 𝓛 𝓜.mem 𝓡.returns) ((κs, qs, bounds, a, (mut_vals a.0, tt)), tt) (vptr b o) (record { ref_ptr = (b, o); ghost_name = γ'; now = x }) (tt, tt) (tt, tt)) $
       nothing ! $ nothing ! $ fjoin ! $ join ! $ nothing ! $ move ! (2 ∷ 0 ∷ []) $ join ! $ join ! $ frame ! $ says ! value $ done !
 
@@ -101,7 +101,7 @@ lend_spec 𝓤 𝓛 𝓜 𝓡 wired =
     exec ! 𝓣.C 𝓣.Λ (env code.Mir.locals l) (after 1 (code.function).body) (at_ret _ (W.post y)) $
     sets ! (of_opd ! (get ! refl)) refl (tt, tt) $
     move ! (1 ∷ 2 ∷ []) $ fjoin ! $ move ! (2 ∷ 3 ∷ 4 ∷ 1 ∷ 0 ∷ []) $ group ! 5 $
-    use1 𝓛 (later (some (λ (γ' : GName). raw (Part 𝓛 R S (with_session h) (named 0) κ q rb ro b o γ (sem 𝓛 (Rest heap' b o rb ro)) (back 𝓛 h heap' b o rb ro at) x γ'))))
-    (lends_Part 𝓛 R S (with_session h) (named 0) κ q rb ro b o γ (sem 𝓛 (Rest heap' b o rb ro)) (back 𝓛 h heap' b o rb ro at) (R.coded.code h) (R.coded.code h) x) $ await ! tt $ pick ! (λ γ'.
+    use1 𝓛 (later (some (λ (γ' : GName). raw (Part 𝓛 R S (with_kept h) (named 0) κ q rb ro b o γ (sem 𝓛 (Rest heap' b o rb ro)) (back 𝓛 h heap' b o rb ro at) x γ'))))
+    (lends_Part 𝓛 R S (with_kept h) (named 0) κ q rb ro b o γ (sem 𝓛 (Rest heap' b o rb ro)) (back 𝓛 h heap' b o rb ro at) (R.coded.code h) (R.coded.code h) x) $ await ! tt $ pick ! (λ γ'.
     returns ! (look_at ! 0 refl) $ free_all ! refl $
     keep ! (0 ∷ []) $ by ! (exits 𝓛 𝓜 𝓡 κs qs bounds a x is.1 b o γ')))))))))

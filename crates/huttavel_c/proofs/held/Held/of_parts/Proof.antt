@@ -25,7 +25,7 @@ use Rattle.std.specs.declared.alloc.Global.{Global}
 use Rattle.std.specs.contracts.alloc.Global as heap
 use Rattle.std.specs.contracts.impls.GlobalAllocator.TheImpl.{ghosts}
 use Rattle.huttavel_c.specs.contracts.held.Held as held
-use Rattle.huttavel_c.specs.contracts.sessions.Session as session
+use Rattle.huttavel_c.specs.contracts.sessions.Kept as kept
 use Rattle.huttavel_c.proofs.Shapes.{word, two, two_typed, held_in, Pieces, owned, parts_out}
 use Rattle.huttavel_c.specs.contracts.held.Held.of_parts.{ended, clauses}
 use Rattle.huttavel_c.specs.contracts.held.Held.of_parts.Key.{name as #self}
@@ -35,7 +35,7 @@ use Rattle.huttavel_c.proofs.held.Held.of_parts.Code as code
 pub of_parts_spec : {M : Type 1} → statement M
 of_parts_spec 𝓤 𝓛 𝓜 𝓡 wired =
     let H = 𝓛.H in let 𝓣 = tables 𝓤 H 𝓜 𝓡 𝓡.env in let fn : Fn = code.function in let c = clauses 𝓛 𝓜.mem 𝓡.returns in
-    let S : RattleType = session.the_row in let G : RattleType = heap.the_row in let P : RattleType = Pieces S G heap_laws.the_row_laws ghosts in
+    let S : RattleType = kept.the_row in let G : RattleType = heap.the_row in let P : RattleType = Pieces S G heap_laws.the_row_laws ghosts in
     let stays : Stays ended.signature.params ended.kept = (stay_dropped (plain (λ _. P)) ended.kept.0, tt) in
     proved_at 𝓛 ended stays c 𝓜 𝓡 (Goes-blank 𝓛 0 (plain (λ _. P)) ended.kept.0 (λ κs x f. tt), tt) #self fn (code.unfolded 𝓤 H 𝓜 𝓡 wired) (λ z are.
     let Post : Val → SProp 𝓤 = (walk_of 𝓛 ended stays c).post z in let Run : List Val → SProp 𝓤 = λ ws. WpFn 𝓤 H 𝓣.C 𝓣.Λ fn ws Post in
