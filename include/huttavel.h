@@ -129,11 +129,11 @@ enum huttavel_fault {
     HUTTAVEL_KEY_TOO_LONG = 57, /* a key's text has more than 64 bytes */
     /* Of an entry and of parameter strings. */
     HUTTAVEL_ABSENT = 58,          /* the entry has no such capability, or there is none of this name */
+    HUTTAVEL_STACK_FULL = 59,      /* the text pushes a 21st value */
     HUTTAVEL_CUT_DIRECTIVE = 60,   /* the text ends inside a directive */
     HUTTAVEL_BAD_DIRECTIVE = 61,   /* there is no such directive, or it cannot be there */
     HUTTAVEL_STRING_OPERATOR = 62, /* `%s` or `%l`: no parameter is a text */
-    HUTTAVEL_TOO_DEEP = 63,        /* a 33rd conditional is open at once */
-    HUTTAVEL_STACK_FULL = 64       /* the text pushes a 21st value */
+    HUTTAVEL_TOO_DEEP = 63         /* a 33rd conditional is open at once */
 };
 
 /* A capability of an entry: its kind, and its position in the table of term(5). */

@@ -225,7 +225,7 @@ static void described(huttavel *screen)
     IS(HUTTAVEL_BAD_LENGTH, huttavel_capability_named(NULL, 7, &which));
     /* Parameter strings, terminfo(5): a variable of capital letters lasts. */
     CHECK(gives(&entry, strings[10], 4, 9, "\033[5;10H"));
-    CHECK(gives(&entry, "%p1%{10}%>%tmany%eFew%;$<3>", 11, 0, "many$<3>"));
+    CHECK(gives(&entry, "%?%p1%{10}%>%tmany%efew%;$<3>", 11, 0, "many$<3>"));
     CHECK(gives(&entry, "%p1%PA%p2%Pb%gb%d", 21, 5, "5"));
     CHECK(gives(&entry, "%gA%d%gb%d", 0, 0, "210"));
     CHECK(gives(&entry, "", 0, 0, ""));

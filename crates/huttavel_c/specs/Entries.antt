@@ -74,7 +74,7 @@ IsRefused fault before after old new answer = (new ≡ old) × (after ≡ before
 abbrev pub IsRun : Outcome → List ℕ → List ℕ → Described → Described → Length → Type 0
 IsRun outcome before after old new answer =
     ((bytes : List ℕ) × HasWritten outcome bytes new.vars × (new.entry ≡ old.entry) × IsCopied bytes before after answer)
-    ⊎ ((outcome ≡ None) × IsRefused 64 before after old new answer)
+    ⊎ ((outcome ≡ None) × IsRefused 59 before after old new answer)
     ⊎ (IsSome outcome × IsRefused 4 before after old new answer)
 
 -- A text with parameters: it is not a parameter string, or memory ran out; or it is one, and it is run with the static

@@ -36,7 +36,7 @@ pub(crate) const KEY_TOO_LONG: u32 = 57;
 /// There is no such capability.
 pub(crate) const ABSENT: u32 = 58;
 /// A parameter string pushes a 21st value.
-pub(crate) const STACK_FULL: u32 = 64;
+pub(crate) const STACK_FULL: u32 = 59;
 
 /// The number of a refusal of a window call.
 pub(crate) fn window_number(fault: WinFault) -> u32
