@@ -22,7 +22,7 @@
 #define A_VERTICAL 0x40000000u
 #define A_ITALIC 0x80000000u
 #define A_CHARTEXT 0x0000ffu
-#define A_COLOR 0x3f0000u
+#define A_COLOR 0xff0000u
 #define A_ATTRIBUTES 0xffffff00u
 
 #define WA_NORMAL A_NORMAL
@@ -54,7 +54,7 @@
 #define COLOR_WHITE 7
 
 /* Pairs are 0 to 63. Pair 0 is the terminal's own colours. */
-#define COLOR_PAIR(n) (((chtype)(n) & 63u) << 16)
+#define COLOR_PAIR(n) (((chtype)(n) & 255u) << 16)
 #define PAIR_NUMBER(a) ((int)(((chtype)(a) & A_COLOR) >> 16))
 
 /* Line drawing, by the letters of the VT100's graphic set. acs_map has the ASCII stand-ins of X/Open Curses Issue 7,

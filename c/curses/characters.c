@@ -19,9 +19,12 @@ static uint8_t attrs_of(chtype character)
     return (uint8_t)(character >> 8 & 0x7f);
 }
 
+/* The pair of a character: 0 where there is none of this number, as before start_color(). */
 static uint32_t pair_of(chtype character)
 {
-    return (uint32_t)PAIR_NUMBER(character);
+    int pair = PAIR_NUMBER(character);
+
+    return current && pair < current->pairs ? (uint32_t)pair : 0;
 }
 
 /* A cell as a chtype. */

@@ -49,7 +49,7 @@ static uint32_t number_of_colour(short colour)
 
 int init_pair(short pair, short foreground, short background)
 {
-    if (!current || pair < 0)
+    if (!current || !current->pairs || pair < 0)
         return ERR;
     return answer(huttavel_set_pair(&current->handle, (uint32_t)pair, number_of_colour(foreground),
                                     number_of_colour(background)));
@@ -66,7 +66,7 @@ int pair_content(short pair, short *foreground, short *background)
 {
     uint32_t first = COLOR_WHITE, second = COLOR_BLACK;
 
-    if (!current || pair < 0)
+    if (!current || !current->pairs || pair < 0)
         return ERR;
     if (pair == 0 && current->has_defaults)
         first = second = HUTTAVEL_DEFAULT_COLOUR;

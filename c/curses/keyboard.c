@@ -41,6 +41,13 @@ static int news(SCREEN *screen)
     return ERR;
 }
 
+/* What a wait gives that a signal ended: it goes on after a signal of the terminal, which is news, and ends with ERR
+   after one that the program handles. */
+static int after_signal(const SCREEN *screen)
+{
+    return screen->is_resized || screen->is_disturbed || screen->has_new_size ? KEY_MAX : ERR;
+}
+
 /* Waits for a byte as long as `end` says, -1 for ever, and reads it. A byte without keypad() is a key at once;
    otherwise it is held. ERR at the end of the input, or in time; KEY_MAX to go on. */
 static int read_byte(WINDOW *window, long long end)
@@ -59,7 +66,7 @@ static int read_byte(WINDOW *window, long long end)
     found = wait_for_byte(screen, wait);
 
     if (found < 0)
-        return errno == EINTR ? KEY_MAX : ERR;
+        return errno == EINTR ? after_signal(screen) : ERR;
     if (found == 0) {
         if (is_short && left_until(reading->decided_at) == 0) {
             decide(reading);
@@ -68,7 +75,9 @@ static int read_byte(WINDOW *window, long long end)
         return end >= 0 && left_until(end) == 0 ? ERR : KEY_MAX;
     }
     count = read(screen->input, &byte, 1);
-    if (count < 0 && (errno == EINTR || errno == EAGAIN))
+    if (count < 0 && errno == EINTR)
+        return after_signal(screen);
+    if (count < 0 && errno == EAGAIN)
         return KEY_MAX;
     if (count <= 0)
         return ERR;

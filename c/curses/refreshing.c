@@ -123,11 +123,19 @@ int wrefresh(WINDOW *window)
     return update(window->screen);
 }
 
+/* Whether a number is from the first to the last. */
+static bool is_in(int number, int first, int last)
+{
+    return first <= number && number <= last;
+}
+
 /* Copies a part of a pad. What is outside the pad is left out, and places before its first count as the first. */
 int pnoutrefresh(WINDOW *pad, int row, int column, int top, int left, int bottom, int right)
 {
     const int part[6] = {row, column, top, left, bottom, right};
     int above = pad ? pad->screen->above : 0;
+    uint32_t cursor_row = 0, cursor_column = 0;
+    bool is_wanted, is_anywhere = false;
 
     if (!pad || !pad->is_pad)
         return ERR;
@@ -141,12 +149,18 @@ int pnoutrefresh(WINDOW *pad, int row, int column, int top, int left, int bottom
         bottom = top + pad->rows - 1 - row;
     if (right - left > pad->columns - 1 - column)
         right = left + pad->columns - 1 - column;
+    is_wanted = huttavel_wanted_cursor(handle_of(pad), &cursor_row, &cursor_column) == HUTTAVEL_OK;
     if (bottom >= pad->screen->rows ||
         huttavel_pad_noutrefresh(handle_of(pad), pad->number, (uint32_t)row, (uint32_t)column, (uint32_t)(top + above),
                                  (uint32_t)left, (uint32_t)(bottom + above), (uint32_t)right) != HUTTAVEL_OK)
         return ERR;
     memcpy(pad->part, part, sizeof part);
     pad->has_part = true;
+    huttavel_is_leave_ok(handle_of(pad), pad->number, &is_anywhere);
+    /* The cursor of a pad counts where it is seen; otherwise that of the window before. */
+    if (!is_anywhere && is_wanted && !(is_in(getcury(pad), row, row + bottom - top) &&
+                                       is_in(getcurx(pad), column, column + right - left)))
+        return set_cursor(pad->screen, (int)cursor_row, (int)cursor_column);
     return OK;
 }
 

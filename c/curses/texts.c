@@ -114,19 +114,17 @@ static int read_line(WINDOW *window, char *line, int most, bool is_echoed)
     for (;;) {
         int key = wgetch(window);
 
-        if (key == ERR || key == '\n' || key == '\r' || key == KEY_ENTER) {
+        if (key == ERR || key == '\n' || key == '\r' || key == KEY_ENTER || key == KEY_DOWN || key == KEY_RESIZE) {
             line[length] = '\0';
             if (is_echoed && wmove(window, row + 1, 0) == OK)
                 wrefresh(window);
-            return key == ERR ? ERR : OK;
+            return key == ERR || key == KEY_RESIZE ? key : OK;
         }
         if (key == KEY_BACKSPACE || key == KEY_LEFT || key == (unsigned char)erasechar() || key == '\b') {
             length = drop_last(window, line, length, row, column, is_echoed);
         } else if (key == (unsigned char)killchar()) {
             while (length > 0)
                 length = drop_last(window, line, length, row, column, is_echoed);
-        } else if (key == KEY_RESIZE) {
-            continue;
         } else if (key < KEY_MIN && length < most) {
             line[length++] = (char)key;
             if (is_echoed)

@@ -43,6 +43,10 @@ static SCREEN *open_screen(void)
         puts("no screen on the terminal xterm");
         exit(1);
     }
+    /* Before it a character has no pair, and a pair no colours. */
+    CHECK(init_pair(1, COLOR_RED, COLOR_BLUE) == ERR && addch('a' | COLOR_PAIR(1)) == OK);
+    CHECK(mvinch(0, 0) == 'a' && clear() == OK && move(0, 0) == OK);
+    IS(OK, start_color());
     return screen;
 }
 
