@@ -2,7 +2,10 @@
 #define _XOPEN_SOURCE 700
 #define _DEFAULT_SOURCE
 
-#include "curses.h"
+/* The names of capabilities are those of variables here. */
+#define HUTTAVEL_NO_TERM_NAMES
+#include "term.h"
+#include "termcap.h"
 
 #include <errno.h>
 #include <limits.h>
@@ -39,6 +42,10 @@
 #include "curses/mouse.c"
 #include "curses/definitions.c"
 #include "curses/sizes.c"
+#include "curses/terminals.c"
+#include "curses/strings.c"
+#include "curses/renditions.c"
+#include "curses/termcap.c"
 #include "curses/opening.c"
 #include "curses/resizing.c"
 #include "curses/files.c"

@@ -7,7 +7,6 @@
  * LEFT OUT, so that a program which wants one of these fails when it is compiled, with the name:
  * - all that is about wide characters: cchar_t, add_wch(), addwstr(), bkgrnd(), box_set(), border_set(), get_wch(),
  *   getcchar(), hline_set(), in_wch(), ins_wch(), setcchar(), slk_wset(), unget_wch(), WACS_* and so on;
- * - the calls of term.h: setupterm(), tigetstr(), tparm(), tputs(), putp(), vidattr(), vidputs() and so on;
  * - what only ncurses has, but for the mouse, keys, sizes and default colours: init_extended_pair(), is_keypad(),
  *   is_scrollok() and their kin, wgetparent(), use_window(), newscr, TABSIZE and so on.
  */
@@ -146,6 +145,29 @@ int ungetmouse(MEVENT *event);
 bool wenclose(const WINDOW *window, int row, int column);
 bool wmouse_trafo(const WINDOW *window, int *row, int *column, bool to_screen);
 bool mouse_trafo(int *row, int *column, bool to_screen);
+
+/* The entry of the terminal, and its strings. These also work without a screen, after setupterm(): term.h has the rest.
+ *
+ * tigetflag() gives -1, tigetnum() -2 and tigetstr() (char *)-1 if there is no capability of this name and kind; and 0,
+ * -1 and NULL if the entry does not have it. */
+int tigetflag(const char *name);
+int tigetnum(const char *name);
+char *tigetstr(const char *name);
+
+/* What a string of the entry gives with up to nine parameters: longs to tparm(), ints to tiparm(). It is valid until
+ * the next call of either. NULL if the string is wrong, has `%s` or `%l`, or memory runs out. */
+char *tparm(const char *text, ...);
+char *tiparm(const char *text, ...);
+
+/* Writes a string of the entry with putchar(), as tputs() of term.h does. */
+int putp(const char *text);
+
+/* Write what gives the terminal exactly these attributes, and the colours of this pair: with `put`, or with putchar().
+ * A pair has the colours of the screen in use; without one, only pair 0 counts. */
+int vidattr(chtype attrs);
+int vidputs(chtype attrs, int (*put)(int));
+int vid_attr(attr_t attrs, short pair, void *options);
+int vid_puts(attr_t attrs, short pair, void *options, int (*put)(int));
 
 /* Soft labels. */
 int slk_init(int format);

@@ -16,9 +16,10 @@ HUTTAVEL_VERSION = $(shell sed -n 's/^.define HUTTAVEL_VERSION "\(.*\)"$$/\1/p' 
 CFLAGS ?= -O2
 CXX ?= c++
 SHIM_FLAGS := -std=c99 -Wall -Wextra -pedantic -I $(SHIM) -I $(HUTTAVEL_INCLUDE)
-# curses_codes.h is a part of curses.h.
-SHIM_HEADERS := $(addprefix $(SHIM),curses.h ncurses.h panel.h unctrl.h)
-SHIM_PARTS := $(SHIM)curses_codes.h $(SHIM)curses/screens.h $(wildcard $(SHIM)curses/*.c)
+SHIM_HEADERS := $(addprefix $(SHIM),curses.h ncurses.h panel.h term.h termcap.h unctrl.h)
+# Parts of curses.h and of term.h.
+SHIM_HEADER_PARTS := $(addprefix $(SHIM),curses_codes.h term_names.h)
+SHIM_PARTS := $(SHIM_HEADER_PARTS) $(SHIM)curses/screens.h $(wildcard $(SHIM)curses/*.c)
 SHIM_OUT := $(SHIM)out
 SHIM_OBJECTS := $(addprefix $(SHIM_OUT)/,curses.o panel.o)
 # Where things go, DESTDIR and all.
@@ -47,10 +48,11 @@ $(SHIM_OUT)/%.o: $(SHIM)%.c $(SHIM_PARTS) $(SHIM_HEADERS)
 	mkdir -p $(SHIM_OUT)
 	$(CC) $(SHIM_FLAGS) $(CFLAGS) -fPIC -c $< -o $@
 
-# Each header alone, and curses.h and huttavel.h together in either order.
+# Each header alone, and two together in either order; but term.h is last, since its names are macros.
 check-headers:
 	mkdir -p $(SHIM_OUT)
-	for headers in $(notdir $(SHIM_HEADERS)) huttavel.h 'curses.h huttavel.h' 'huttavel.h curses.h'; do \
+	for headers in $(notdir $(SHIM_HEADERS)) huttavel.h 'curses.h huttavel.h' 'huttavel.h curses.h' \
+	    'huttavel.h panel.h term.h' 'termcap.h term.h' 'term.h termcap.h' 'term.h curses.h'; do \
 	    for header in $$headers; do echo "#include <$$header>"; done > $(SHIM_OUT)/header.c; \
 	    echo 'int main(void) { return 0; }' >> $(SHIM_OUT)/header.c; \
 	    $(CC) $(SHIM_FLAGS) -Werror -fsyntax-only $(SHIM_OUT)/header.c || exit; \
@@ -59,7 +61,7 @@ check-headers:
 
 install-curses: curses
 	install -d $(TO_HEADERS) $(TO_LIBRARIES)/pkgconfig $(TO_OTHERS)/pkgconfig
-	install -m 644 $(SHIM_HEADERS) $(SHIM)curses_codes.h $(TO_HEADERS)
+	install -m 644 $(SHIM_HEADERS) $(SHIM_HEADER_PARTS) $(TO_HEADERS)
 	install -m 644 $(SHIM_OUT)/libhuttavel_curses.a $(TO_LIBRARIES)
 	$(call PACKAGE,huttavel_curses,lib,$(HUTTAVEL_VERSION),-lhuttavel_curses -lhuttavel) \
 	    > $(TO_LIBRARIES)/pkgconfig/huttavel_curses.pc
@@ -71,7 +73,7 @@ install-curses: curses
 	done
 
 uninstall-curses:
-	rm -f $(addprefix $(TO_HEADERS)/,$(notdir $(SHIM_HEADERS)) curses_codes.h)
+	rm -f $(addprefix $(TO_HEADERS)/,$(notdir $(SHIM_HEADERS) $(SHIM_HEADER_PARTS)))
 	rm -f $(TO_LIBRARIES)/libhuttavel_curses.a $(TO_LIBRARIES)/pkgconfig/huttavel_curses.pc
 	rm -f $(OTHER_NAMES:%=$(TO_OTHERS)/lib%.a) $(OTHER_PACKAGES:%=$(TO_OTHERS)/pkgconfig/%.pc)
 	-rmdir $(TO_HEADERS) $(TO_OTHERS)/pkgconfig $(TO_OTHERS)

@@ -45,9 +45,16 @@ static struct text read_file(const char *path)
     return text;
 }
 
+/* The name that is looked for, and whether a folder of entries was found meanwhile. */
+struct search {
+    const char *name;
+    bool has_folder;
+};
+
 /* Reads the entry of a name from a folder: it is in the subfolder of its first letter, or of the letter's code. */
-static struct text read_in(const char *folder, size_t length, const char *name)
+static struct text read_in(const char *folder, size_t length, struct search *search)
 {
+    const char *name = search->name;
     struct text text = {NULL, 0};
     size_t room = length + strlen(name) + 8;
     char *path = malloc(room);
@@ -60,20 +67,22 @@ static struct text read_in(const char *folder, size_t length, const char *name)
         snprintf(path, room, "%.*s/%02x/%s", (int)length, folder, (unsigned char)name[0], name);
         text = read_file(path);
     }
+    path[length] = '\0';
+    search->has_folder |= access(path, F_OK) == 0;
     free(path);
     return text;
 }
 
 /* Reads the entry of a name in the first of these folders that has one, between colons. An empty one stands for the
    system's. */
-static struct text read_among(const char *folders, const char *name)
+static struct text read_among(const char *folders, struct search *search)
 {
     struct text text = {NULL, 0};
 
     while (!text.bytes) {
         size_t length = strcspn(folders, ":");
 
-        text = length ? read_in(folders, length, name) : read_among(SYSTEM_FOLDERS, name);
+        text = length ? read_in(folders, length, search) : read_among(SYSTEM_FOLDERS, search);
         if (!folders[length])
             break;
         folders += length + 1;
@@ -92,29 +101,35 @@ static bool is_terminal_name(const char *name)
     return true;
 }
 
-/* Finds and reads the entry of a terminal's name. NULL bytes if there is none. */
-static struct text find_entry(const char *name)
+/* Finds and reads the entry of a terminal's name. NULL bytes if there is none, and then whether there are entries at
+   all. */
+static struct text find_entry(const char *name, bool *are_any)
 {
     struct text text = {NULL, 0};
+    struct search search = {name, false};
     const char *given = getenv("TERMINFO"), *home = getenv("HOME"), *listed = getenv("TERMINFO_DIRS");
 
+    *are_any = true;
     if (!is_terminal_name(name))
         return text;
     if (given && *given)
-        text = read_in(given, strlen(given), name);
+        text = read_in(given, strlen(given), &search);
     if (!text.bytes && home && *home) {
         char *folder = malloc(strlen(home) + sizeof "/.terminfo");
 
         if (folder) {
             strcpy(folder, home);
             strcat(folder, "/.terminfo");
-            text = read_in(folder, strlen(folder), name);
+            text = read_in(folder, strlen(folder), &search);
             free(folder);
         }
     }
     if (!text.bytes && listed && *listed)
-        text = read_among(listed, name);
-    return text.bytes ? text : read_among(SYSTEM_FOLDERS, name);
+        text = read_among(listed, &search);
+    if (!text.bytes)
+        text = read_among(SYSTEM_FOLDERS, &search);
+    *are_any = search.has_folder;
+    return text;
 }
 
 /* A number of 16 bits of an entry; 0xffff past its end. */
@@ -147,8 +162,51 @@ static const char *string_of(const SCREEN *screen, unsigned position)
     return (const char *)entry->bytes + place;
 }
 
-/* A string of the entry as it is sent, without padding (terminfo(5), 'Delays and Padding'), in memory of its own; empty
-   where the entry has none. NULL bytes if memory runs out. */
+/* A padding, as `$<5.5*>`: a pause between bytes of a string (terminfo(5), 'Delays and Padding'). */
+struct padding {
+    long tenths;               /* of a millisecond */
+    bool is_proportional;      /* it is for each line that the string affects */
+    bool is_mandatory;
+};
+
+/* The longest padding, in milliseconds. */
+#define LONGEST_PADDING 100000
+
+/* Whether a character of the text is there, which is gone over then. */
+static bool skips(const char **text, char character)
+{
+    if (**text != character)
+        return false;
+    ++*text;
+    return true;
+}
+
+/* Reads a padding: its length in the text, 0 if none begins there. */
+static size_t padding_at(const char *text, struct padding *padding)
+{
+    const char *place = text;
+    char *end;
+    long whole;
+
+    if (!skips(&place, '$') || !skips(&place, '<') || *place < '0' || *place > '9')
+        return 0;
+    whole = strtol(place, &end, 10);
+    place = end;
+    padding->tenths = 10 * (whole < LONGEST_PADDING ? whole : LONGEST_PADDING);
+    if (skips(&place, '.')) {
+        if (*place < '0' || *place > '9')
+            return 0;
+        padding->tenths += *place++ - '0';
+    }
+    padding->is_proportional = skips(&place, '*');
+    padding->is_mandatory = skips(&place, '/');
+    if (!padding->is_proportional)
+        padding->is_proportional = skips(&place, '*');
+    return skips(&place, '>') ? (size_t)(place - text) : 0;
+}
+
+/* A string of the entry as it is sent, without padding, in memory of its own; empty where the entry has none. NULL bytes
+   if memory runs out. */
 static struct text sent_text(const SCREEN *screen, unsigned position)
 {
     const char *string = string_of(screen, position);
@@ -156,12 +214,12 @@ static struct text sent_text(const SCREEN *screen, unsigned position)
 
     text.bytes = malloc(string ? strlen(string) + 1 : 1);
     while (text.bytes && string && *string) {
-        const char *end = strncmp(string, "$<", 2) ? NULL : strchr(string, '>');
+        struct padding padding;
+        size_t length = padding_at(string, &padding);
 
-        if (end)
-            string = end + 1;
-        else
+        if (length == 0)
             text.bytes[text.length++] = (uint8_t)*string++;
+        string += length;
     }
     return text;
 }
@@ -183,20 +241,4 @@ static struct text entry_of_updates(const struct text *entry)
             copy.bytes[place] = copy.bytes[place + 1] = 0xff;
     }
     return copy;
-}
-
-/* The last of an entry's names, which describes the terminal, in memory of its own. */
-static char *description_of(const struct text *entry)
-{
-    size_t length = short_at(entry, 2);
-    char *description = calloc(length + 1, 1);
-    char *bar;
-
-    if (!description || 12 + length > entry->length)
-        return description;
-    memcpy(description, entry->bytes + 12, length);
-    bar = strrchr(description, '|');
-    if (bar)
-        memmove(description, bar + 1, strlen(bar));
-    return description;
 }

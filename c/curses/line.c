@@ -182,20 +182,22 @@ char killchar(void)
     return current ? (char)current->shell.c_cc[VKILL] : ERR;
 }
 
-int baudrate(void)
+/* The speeds of lines, in the order of their codes in ospeed, which begin at 1. */
+static const struct {
+    speed_t speed;
+    int bauds;
+} speeds[] = {{B50, 50},       {B75, 75},       {B110, 110},     {B134, 134},     {B150, 150},
+              {B200, 200},     {B300, 300},     {B600, 600},     {B1200, 1200},   {B1800, 1800},
+              {B2400, 2400},   {B4800, 4800},   {B9600, 9600},   {B19200, 19200}, {B38400, 38400},
+              {B57600, 57600}, {B115200, 115200}};
+
+/* The speed that a line has, in bits each second. */
+static int bauds_of(const struct termios *modes)
 {
-    static const struct {
-        speed_t speed;
-        int bauds;
-    } speeds[] = {{B50, 50},     {B75, 75},     {B110, 110},   {B134, 134},     {B150, 150},    {B200, 200},
-                  {B300, 300},   {B600, 600},   {B1200, 1200}, {B1800, 1800},   {B2400, 2400},  {B4800, 4800},
-                  {B9600, 9600}, {B19200, 19200}, {B38400, 38400}, {B57600, 57600}, {B115200, 115200}};
     size_t n;
 
-    if (!current || !current->is_terminal)
-        return ERR;
     for (n = 0; n < sizeof speeds / sizeof *speeds; n++)
-        if (speeds[n].speed == cfgetospeed(&current->shell))
+        if (speeds[n].speed == cfgetospeed(modes))
             return speeds[n].bauds;
     return 115200;
 }

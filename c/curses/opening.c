@@ -56,7 +56,7 @@ static void free_screen(SCREEN *screen)
     free(screen->shown);
     free(screen->entry.bytes);
     free(screen->name);
-    free(screen->description);
+    del_curterm(screen->terminal);
     free(screen->waiting.bytes);
     free(screen->enter.bytes);
     free(screen->leave.bytes);
@@ -88,6 +88,7 @@ static SCREEN *made_screen(const char *type, int output, int input, const char *
 {
     SCREEN *screen = calloc(1, sizeof *screen);
     uint32_t rows, columns, fault;
+    bool are_any;
 
     *reason = "out of memory";
     if (!screen)
@@ -96,11 +97,11 @@ static SCREEN *made_screen(const char *type, int output, int input, const char *
     screen->output = output;
     screen->visibility = 1;
     screen->mouse.interval = CLICK_INTERVAL;
-    screen->entry = find_entry(type);
+    screen->entry = find_entry(type, &are_any);
     screen->name = calloc(strlen(type) + 1, 1);
     screen->waiting.bytes = malloc(4096);
     screen->waiting.length = screen->waiting.bytes ? 4096 : 0;
-    ask_size(screen, &rows, &columns);
+    ask_size(output, &rows, &columns);
     fault = screen->entry.bytes ? open_handle(screen, &screen->handle, rows, columns) : HUTTAVEL_OK;
     if (!screen->entry.bytes || fault != HUTTAVEL_OK || !screen->name || !screen->waiting.bytes) {
         *reason = screen->entry.bytes ? huttavel_fault_text(fault) : "no entry of this name";
@@ -108,26 +109,13 @@ static SCREEN *made_screen(const char *type, int output, int input, const char *
         return NULL;
     }
     strcpy(screen->name, type);
-    screen->description = description_of(&screen->entry);
-    if (!screen->description || !make_windows(screen) || !make_texts(screen)) {
+    screen->terminal = made_terminal(&screen->entry, type, output, &fault);
+    if (!screen->terminal || !make_windows(screen) || !make_texts(screen)) {
         free_screen(screen);
         return NULL;
     }
+    show_size(screen->terminal, screen->shown->rows, screen->shown->columns);
     return screen;
-}
-
-char ttytype[TYPE_LENGTH];
-
-/* Copies the names of a screen's terminal to ttytype, as many bytes as it has room for. */
-static void copy_names(const SCREEN *screen)
-{
-    size_t length = screen ? short_at(&screen->entry, 2) : 0;
-
-    if (length >= sizeof ttytype)
-        length = sizeof ttytype - 1;
-    memset(ttytype, 0, sizeof ttytype);
-    if (length > 0 && 12 + length <= screen->entry.length)
-        memcpy(ttytype, screen->entry.bytes + 12, length);
 }
 
 SCREEN *set_term(SCREEN *screen)
@@ -143,7 +131,7 @@ SCREEN *set_term(SCREEN *screen)
     COLS = screen ? screen->columns : 0;
     COLORS = screen ? screen->colors : 0;
     COLOR_PAIRS = screen ? screen->pairs : 0;
-    copy_names(screen);
+    set_curterm(screen ? screen->terminal : NULL);
     return before;
 }
 
@@ -254,16 +242,6 @@ void delscreen(SCREEN *screen)
     if (initial == screen)
         initial = NULL;
     free_screen(screen);
-}
-
-char *termname(void)
-{
-    return current ? current->name : NULL;
-}
-
-char *longname(void)
-{
-    return current ? current->description : NULL;
 }
 
 const char *curses_version(void)

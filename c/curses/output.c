@@ -90,24 +90,22 @@ static int write_waiting(SCREEN *screen)
     return huttavel_waiting(&screen->handle) ? ERR : OK;
 }
 
-/* Writes a string of the entry after all that waits. Its padding, `$<5>`, is time that passes: terminfo(5), 'Delays
-   and Padding'. ERR without a string. */
+/* Writes a string of the entry after all that waits. Its padding is time that passes. ERR without a string. */
 static int write_string(SCREEN *screen, const char *text)
 {
     if (!text || write_waiting(screen) == ERR)
         return ERR;
     while (*text) {
-        const char *end = strstr(text, "$<");
-        size_t length = end ? (size_t)(end - text) : strlen(text);
+        struct padding padding;
+        size_t length = 0, skipped = 0;
 
+        while (text[length] && (skipped = padding_at(text + length, &padding)) == 0)
+            length++;
         if (write_all(screen->output, (const uint8_t *)text, length) == ERR)
             return ERR;
-        text += length;
-        if (end) {
-            napms(atoi(end + 2));
-            end = strchr(end, '>');
-            text = end ? end + 1 : text + strlen(text);
-        }
+        if (skipped)
+            napms((int)(padding.tenths + 9) / 10);
+        text += length + skipped;
     }
     return OK;
 }

@@ -215,6 +215,7 @@ static void take_over(SCREEN *screen, huttavel to, const struct again *all, int 
     }
     free(screen->whole);
     screen->whole = NULL;
+    show_size(screen->terminal, rows, columns);
     if (screen == current) {
         LINES = screen->rows;
         COLS = screen->columns;
@@ -280,7 +281,7 @@ static void resize(SCREEN *screen)
     uint32_t rows, columns;
 
     screen->is_resized = 0;
-    ask_size(screen, &rows, &columns);
+    ask_size(screen->output, &rows, &columns);
     if (rows && is_other_size(screen, (int)rows, (int)columns) && resize_to(screen, (int)rows, (int)columns) == OK)
         screen->has_new_size = true;
 }

@@ -102,7 +102,8 @@ struct huttavel_curses_screen {
     huttavel handle;
     SCREEN *next;
     struct text entry;         /* the compiled file */
-    char *name, *description;  /* termname(), longname() */
+    char *name;
+    TERMINAL *terminal;        /* the entry for term.h; NULL after del_curterm() */
     int input, output;         /* descriptors */
     WINDOW *windows;           /* all but curscr, the first made first */
     WINDOW *standard, *shown;  /* stdscr and curscr */

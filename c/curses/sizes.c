@@ -37,15 +37,15 @@ static void take_size(uint32_t *size, const char *variable, unsigned short said)
     *size = said > LARGEST ? LARGEST : said;
 }
 
-/* The terminal's size: that of LINES and COLUMNS, or else the line's; 0 and 0 if neither says one. Without the
-   environment, the line counts only after use_tioctl(). */
-static void ask_size(const SCREEN *screen, uint32_t *rows, uint32_t *columns)
+/* The size of the terminal that a descriptor writes to: that of LINES and COLUMNS, or else the line's; 0 and 0 if
+   neither says one. Without the environment, the line counts only after use_tioctl(). */
+static void ask_size(int output, uint32_t *rows, uint32_t *columns)
 {
     struct winsize size;
 
     *rows = size_in("LINES");
     *columns = size_in("COLUMNS");
-    if ((is_environment_used || is_line_preferred) && ioctl(screen->output, TIOCGWINSZ, &size) == 0 &&
+    if ((is_environment_used || is_line_preferred) && ioctl(output, TIOCGWINSZ, &size) == 0 &&
         size.ws_row > 0 && size.ws_col > 0) {
         take_size(rows, "LINES", size.ws_row);
         take_size(columns, "COLUMNS", size.ws_col);
