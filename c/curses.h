@@ -8,7 +8,7 @@
  * - all that is about wide characters: cchar_t, add_wch(), addwstr(), bkgrnd(), box_set(), border_set(), get_wch(),
  *   getcchar(), hline_set(), in_wch(), ins_wch(), setcchar(), slk_wset(), unget_wch(), WACS_* and so on;
  * - what only ncurses has, but for the mouse, keys, sizes and default colours: init_extended_pair(), is_keypad(),
- *   is_scrollok() and their kin, wgetparent(), use_window(), newscr, TABSIZE and so on.
+ *   is_scrollok() and their kin, wgetparent(), use_window(), newscr, TABSIZE, boolnames and so on.
  */
 #ifndef HUTTAVEL_CURSES_H
 #define HUTTAVEL_CURSES_H

@@ -22,7 +22,7 @@ extern short ospeed;
 int tgetent(char *buffer, const char *type);
 
 /* Whether the entry has a flag; a number, or -1; a string, or NULL. Where there is an area, the string is copied to it
- * with a NUL at its end, and the area begins behind that from then on; otherwise it is valid while the entry is open. */
+ * with a NUL at its end, and the area then begins behind that; otherwise it is valid while the entry is open. */
 int tgetflag(const char *code);
 int tgetnum(const char *code);
 char *tgetstr(const char *code, char **area);

@@ -26,8 +26,15 @@ enum {
 
 #define SYSTEM_FOLDERS "/etc/terminfo:/lib/terminfo:/usr/share/terminfo"
 
+/* The name of an entry that is looked for, and what was found out meanwhile. */
+struct search {
+    const char *name;
+    bool has_folder;           /* there is a folder of entries */
+    bool is_short;             /* memory ran out */
+};
+
 /* Reads a file whole. NULL bytes if it cannot be read, or memory runs out. */
-static struct text read_file(const char *path)
+static struct text read_file(const char *path, struct search *search)
 {
     struct text text = {NULL, 0};
     FILE *file = fopen(path, "rb");
@@ -35,6 +42,7 @@ static struct text read_file(const char *path)
     if (!file)
         return text;
     text.bytes = malloc(LONGEST_ENTRY);
+    search->is_short |= !text.bytes;
     if (text.bytes)
         text.length = fread(text.bytes, 1, LONGEST_ENTRY, file);
     if (text.bytes && ferror(file)) {
@@ -45,12 +53,6 @@ static struct text read_file(const char *path)
     return text;
 }
 
-/* The name that is looked for, and whether a folder of entries was found meanwhile. */
-struct search {
-    const char *name;
-    bool has_folder;
-};
-
 /* Reads the entry of a name from a folder: it is in the subfolder of its first letter, or of the letter's code. */
 static struct text read_in(const char *folder, size_t length, struct search *search)
 {
@@ -59,13 +61,14 @@ static struct text read_in(const char *folder, size_t length, struct search *sea
     size_t room = length + strlen(name) + 8;
     char *path = malloc(room);
 
+    search->is_short |= !path;
     if (!path)
         return text;
     snprintf(path, room, "%.*s/%c/%s", (int)length, folder, name[0], name);
-    text = read_file(path);
+    text = read_file(path, search);
     if (!text.bytes) {
         snprintf(path, room, "%.*s/%02x/%s", (int)length, folder, (unsigned char)name[0], name);
-        text = read_file(path);
+        text = read_file(path, search);
     }
     path[length] = '\0';
     search->has_folder |= access(path, F_OK) == 0;
@@ -101,35 +104,39 @@ static bool is_terminal_name(const char *name)
     return true;
 }
 
-/* Finds and reads the entry of a terminal's name. NULL bytes if there is none, and then whether there are entries at
-   all. */
-static struct text find_entry(const char *name, bool *are_any)
+/* Reads the entry that is looked for from the folder of the user's own. */
+static struct text read_at_home(const char *home, struct search *search)
 {
     struct text text = {NULL, 0};
-    struct search search = {name, false};
+    char *folder = malloc(strlen(home) + sizeof "/.terminfo");
+
+    search->is_short |= !folder;
+    if (!folder)
+        return text;
+    strcpy(folder, home);
+    strcat(folder, "/.terminfo");
+    text = read_in(folder, strlen(folder), search);
+    free(folder);
+    return text;
+}
+
+/* Finds and reads the entry that is looked for. NULL bytes if there is none. */
+static struct text find_entry(struct search *search)
+{
+    struct text text = {NULL, 0};
     const char *given = getenv("TERMINFO"), *home = getenv("HOME"), *listed = getenv("TERMINFO_DIRS");
 
-    *are_any = true;
-    if (!is_terminal_name(name))
+    if (!is_terminal_name(search->name)) {
+        search->has_folder = true;
         return text;
-    if (given && *given)
-        text = read_in(given, strlen(given), &search);
-    if (!text.bytes && home && *home) {
-        char *folder = malloc(strlen(home) + sizeof "/.terminfo");
-
-        if (folder) {
-            strcpy(folder, home);
-            strcat(folder, "/.terminfo");
-            text = read_in(folder, strlen(folder), &search);
-            free(folder);
-        }
     }
+    if (given && *given)
+        text = read_in(given, strlen(given), search);
+    if (!text.bytes && home && *home)
+        text = read_at_home(home, search);
     if (!text.bytes && listed && *listed)
-        text = read_among(listed, &search);
-    if (!text.bytes)
-        text = read_among(SYSTEM_FOLDERS, &search);
-    *are_any = search.has_folder;
-    return text;
+        text = read_among(listed, search);
+    return text.bytes ? text : read_among(SYSTEM_FOLDERS, search);
 }
 
 /* A number of 16 bits of an entry; 0xffff past its end. */
@@ -205,8 +212,8 @@ static size_t padding_at(const char *text, struct padding *padding)
     return skips(&place, '>') ? (size_t)(place - text) : 0;
 }
 
-/* A string of the entry as it is sent, without padding, in memory of its own; empty where the entry has none. NULL bytes
-   if memory runs out. */
+/* A string of the entry as it is sent, without padding, in memory of its own; empty where the entry has none. NULL
+   bytes if memory runs out. */
 static struct text sent_text(const SCREEN *screen, unsigned position)
 {
     const char *string = string_of(screen, position);

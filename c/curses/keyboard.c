@@ -21,7 +21,7 @@ static int wait_for_byte(const SCREEN *screen, int milliseconds)
 {
     struct pollfd asked;
 
-    asked.fd = screen->input;
+    asked.fd = screen->line.input;
     asked.events = POLLIN;
     asked.revents = 0;
     return poll(&asked, 1, milliseconds);
@@ -74,7 +74,7 @@ static int read_byte(WINDOW *window, long long end)
         }
         return end >= 0 && left_until(end) == 0 ? ERR : KEY_MAX;
     }
-    count = read(screen->input, &byte, 1);
+    count = read(screen->line.input, &byte, 1);
     if (count < 0 && errno == EINTR)
         return after_signal(screen);
     if (count < 0 && errno == EAGAIN)
@@ -141,8 +141,8 @@ int flushinp(void)
 {
     if (!current)
         return ERR;
-    if (current->is_terminal)
-        tcflush(current->input, TCIFLUSH);
+    if (current->line.is_terminal)
+        tcflush(current->line.input, TCIFLUSH);
     current->pushed_count = 0;
     forget_typed(current);
     return OK;

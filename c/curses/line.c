@@ -1,11 +1,27 @@
 /* The modes of the terminal's line (POSIX, 'General Terminal Interface'). */
 
-/* Sets the line to modes, and keeps them as those of the program if they were accepted. */
-static int set_program(SCREEN *screen, const struct termios *modes)
+/* Takes the modes that a line has as those of the shell, and of the program until it changes them. */
+static void open_line(struct line *line, int input)
 {
-    if (!screen || (screen->is_terminal && tcsetattr(screen->input, TCSADRAIN, modes) < 0))
+    line->input = input;
+    line->is_terminal = tcgetattr(input, &line->shell) == 0;
+    line->program = line->shell;
+}
+
+/* The line of the screen in use, or else of cur_term; NULL without both. */
+static struct line *line_in_use(void)
+{
+    if (current)
+        return &current->line;
+    return cur_term ? &whole_of(cur_term)->line : NULL;
+}
+
+/* Sets the line to modes, and keeps them as those of the program if they were accepted. */
+static int set_program(struct line *line, const struct termios *modes)
+{
+    if (line->is_terminal && tcsetattr(line->input, TCSADRAIN, modes) < 0)
         return ERR;
-    screen->program = *modes;
+    line->program = *modes;
     return OK;
 }
 
@@ -17,20 +33,20 @@ static int change_modes(tcflag_t on, tcflag_t off, tcflag_t input_on, tcflag_t i
 
     if (!current)
         return ERR;
-    modes = current->program;
+    modes = current->line.program;
     modes.c_lflag = (modes.c_lflag | on) & ~off;
     modes.c_iflag = (modes.c_iflag | input_on) & ~(input_off | ICRNL);
     if (modes.c_lflag & ICANON)
         modes.c_iflag |= ICRNL;
     modes.c_cc[VMIN] = 1;
     modes.c_cc[VTIME] = 0;
-    return set_program(current, &modes);
+    return set_program(&current->line, &modes);
 }
 
 /* The modes that a program begins with: bytes come one by one, it echoes by itself, and a line feed is what it sends. */
 static int begin_modes(SCREEN *screen)
 {
-    struct termios modes = screen->shell;
+    struct termios modes = screen->line.shell;
 
     modes.c_lflag &= ~(tcflag_t)(ICANON | ECHO | ECHONL);
     modes.c_iflag &= ~(tcflag_t)(ICRNL | INLCR | IGNCR);
@@ -39,7 +55,7 @@ static int begin_modes(SCREEN *screen)
     modes.c_cc[VTIME] = 0;
     screen->is_echo = true;
     screen->is_newline = true;
-    return set_program(screen, &modes);
+    return set_program(&screen->line, &modes);
 }
 
 /* Changes how input is read, which ends what halfdelay() began. */
@@ -144,42 +160,58 @@ int nonl(void)
 
 int def_prog_mode(void)
 {
-    return current && current->is_terminal && tcgetattr(current->input, &current->program) == 0 ? OK : ERR;
+    struct line *line = line_in_use();
+
+    return line && tcgetattr(line->input, &line->program) == 0 ? OK : ERR;
 }
 
 int def_shell_mode(void)
 {
-    return current && current->is_terminal && tcgetattr(current->input, &current->shell) == 0 ? OK : ERR;
+    struct line *line = line_in_use();
+
+    return line && tcgetattr(line->input, &line->shell) == 0 ? OK : ERR;
 }
 
 int reset_prog_mode(void)
 {
-    return current && tcsetattr(current->input, TCSADRAIN, &current->program) == 0 ? OK : ERR;
+    const struct line *line = line_in_use();
+
+    return line && tcsetattr(line->input, TCSADRAIN, &line->program) == 0 ? OK : ERR;
 }
 
 int reset_shell_mode(void)
 {
-    return current && tcsetattr(current->input, TCSADRAIN, &current->shell) == 0 ? OK : ERR;
+    const struct line *line = line_in_use();
+
+    return line && tcsetattr(line->input, TCSADRAIN, &line->shell) == 0 ? OK : ERR;
 }
 
 int savetty(void)
 {
-    return current && tcgetattr(current->input, &current->saved) == 0 ? OK : ERR;
+    struct line *line = line_in_use();
+
+    return line && tcgetattr(line->input, &line->saved) == 0 ? OK : ERR;
 }
 
 int resetty(void)
 {
-    return current && current->saved.c_cflag ? set_program(current, &current->saved) : ERR;
+    struct line *line = line_in_use();
+
+    return line && line->saved.c_cflag ? set_program(line, &line->saved) : ERR;
 }
 
 char erasechar(void)
 {
-    return current ? (char)current->shell.c_cc[VERASE] : ERR;
+    const struct line *line = line_in_use();
+
+    return line ? (char)line->shell.c_cc[VERASE] : ERR;
 }
 
 char killchar(void)
 {
-    return current ? (char)current->shell.c_cc[VKILL] : ERR;
+    const struct line *line = line_in_use();
+
+    return line ? (char)line->shell.c_cc[VKILL] : ERR;
 }
 
 /* The speeds of lines, in the order of their codes in ospeed, which begin at 1. */
@@ -191,13 +223,20 @@ static const struct {
               {B2400, 2400},   {B4800, 4800},   {B9600, 9600},   {B19200, 19200}, {B38400, 38400},
               {B57600, 57600}, {B115200, 115200}};
 
-/* The speed that a line has, in bits each second. */
-static int bauds_of(const struct termios *modes)
+/* The speed that a line has, in bits each second; ERR if it is that of no terminal. */
+static int bauds_of(const struct line *line)
 {
     size_t n;
 
+    if (!line->is_terminal)
+        return ERR;
     for (n = 0; n < sizeof speeds / sizeof *speeds; n++)
-        if (speeds[n].speed == cfgetospeed(modes))
+        if (speeds[n].speed == cfgetospeed(&line->shell))
             return speeds[n].bauds;
     return 115200;
+}
+
+int baudrate(void)
+{
+    return line_in_use() ? bauds_of(line_in_use()) : ERR;
 }

@@ -87,17 +87,17 @@ static bool make_windows(SCREEN *screen)
 static SCREEN *made_screen(const char *type, int output, int input, const char **reason)
 {
     SCREEN *screen = calloc(1, sizeof *screen);
+    struct search search = {type, false, false};
     uint32_t rows, columns, fault;
-    bool are_any;
 
     *reason = "out of memory";
     if (!screen)
         return NULL;
-    screen->input = input;
+    screen->line.input = input;
     screen->output = output;
     screen->visibility = 1;
     screen->mouse.interval = CLICK_INTERVAL;
-    screen->entry = find_entry(type, &are_any);
+    screen->entry = find_entry(&search);
     screen->name = calloc(strlen(type) + 1, 1);
     screen->waiting.bytes = malloc(4096);
     screen->waiting.length = screen->waiting.bytes ? 4096 : 0;
@@ -138,16 +138,15 @@ SCREEN *set_term(SCREEN *screen)
 /* Takes over the terminal: its modes, and its screen. False, and why, if it allows neither; it is as it was then. */
 static bool take_terminal(SCREEN *screen, const char **reason)
 {
-    screen->is_terminal = tcgetattr(screen->input, &screen->shell) == 0;
-    screen->program = screen->shell;
+    open_line(&screen->line, screen->line.input);
     *reason = "the modes of its line cannot be set";
     if (begin_modes(screen) == ERR)
         return false;
     *reason = "it cannot be written to";
     if (write_text(screen, &screen->enter) == OK)
         return true;
-    if (screen->is_terminal)
-        tcsetattr(screen->input, TCSADRAIN, &screen->shell);
+    if (screen->line.is_terminal)
+        tcsetattr(screen->line.input, TCSADRAIN, &screen->line.shell);
     return false;
 }
 
@@ -217,7 +216,7 @@ int endwin(void)
     if (write_text(current, &current->leave) == ERR)
         done = ERR;
     current->has_ended = 1;
-    if (current->is_terminal && tcsetattr(current->input, TCSADRAIN, &current->shell) < 0)
+    if (current->line.is_terminal && tcsetattr(current->line.input, TCSADRAIN, &current->line.shell) < 0)
         done = ERR;
     return done;
 }

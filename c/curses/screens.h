@@ -31,6 +31,13 @@ struct text {
     size_t length;
 };
 
+/* The line of a terminal (POSIX, 'General Terminal Interface'). */
+struct line {
+    int input;                 /* the descriptor that its modes are set by, and keys are read from */
+    bool is_terminal;          /* whether `shell` could be read */
+    struct termios shell, program, saved;
+};
+
 /* A text of the keyboard that define_key() made a key. */
 struct definition {
     struct definition *next;
@@ -74,6 +81,20 @@ struct labels {
     } all[LABELS];
 };
 
+/* An open entry of term.h. */
+struct terminal {
+    TERMINAL seen;             /* what term.h shows: the first member, so that a pointer to it is one to all of this */
+    struct terminal *next;
+    huttavel entry;
+    char *type;                /* the name that it was opened by: termname() */
+    char *names;               /* all its names, with `|` between them */
+    char *strings;             /* the memory of its strings */
+    char *result;              /* of tparm() */
+    struct line line;          /* of its descriptor */
+    short pair;                /* the one that vid_puts() set last */
+    bool is_of_termcap;        /* only tgetent() opened it, which closes it */
+};
+
 struct huttavel_curses_window {
     SCREEN *screen;
     WINDOW *next;              /* in the order in which they were made */
@@ -104,7 +125,8 @@ struct huttavel_curses_screen {
     struct text entry;         /* the compiled file */
     char *name;
     TERMINAL *terminal;        /* the entry for term.h; NULL after del_curterm() */
-    int input, output;         /* descriptors */
+    struct line line;
+    int output;                /* a descriptor */
     WINDOW *windows;           /* all but curscr, the first made first */
     WINDOW *standard, *shown;  /* stdscr and curscr */
     WINDOW *whole;             /* a window over the whole screen that nothing is written on, or NULL */
@@ -113,8 +135,6 @@ struct huttavel_curses_screen {
     struct labels labels;
     int colors, pairs;         /* COLORS, COLOR_PAIRS: 0 before start_color() */
     bool has_defaults;         /* use_default_colors() */
-    struct termios shell, program, saved;
-    bool is_terminal;          /* whether `shell` could be read */
     bool is_echo, is_newline;  /* echo(), nl() */
     int half_delay;            /* halfdelay(), in tenths of a second; 0 without */
     int visibility;            /* curs_set() */
@@ -144,6 +164,14 @@ static SCREEN *current;
 
 /* All screens, the last made first. */
 static SCREEN *screens;
+
+TERMINAL *cur_term;
+
+/* All of a terminal that term.h shows; NULL without one. */
+static struct terminal *whole_of(TERMINAL *terminal)
+{
+    return (struct terminal *)terminal;
+}
 
 /* OK, or ERR for a refusal. */
 static int answer(uint32_t fault)

@@ -44,15 +44,15 @@ static void leave_terminal(const SCREEN *screen)
     if (screen->is_reporting)
         write_marked(screen->output, (const uint8_t *)reports_off, strlen(reports_off));
     write_marked(screen->output, screen->leave.bytes, screen->leave.length);
-    if (screen->is_terminal)
-        tcsetattr(screen->input, TCSADRAIN, &screen->shell);
+    if (screen->line.is_terminal)
+        tcsetattr(screen->line.input, TCSADRAIN, &screen->line.shell);
 }
 
 /* Takes over the terminal again. What it shows is repainted by the next update, or by a call that waits for a key. */
 static void enter_terminal(SCREEN *screen)
 {
-    if (screen->is_terminal)
-        tcsetattr(screen->input, TCSADRAIN, &screen->program);
+    if (screen->line.is_terminal)
+        tcsetattr(screen->line.input, TCSADRAIN, &screen->line.program);
     write_marked(screen->output, screen->enter.bytes, screen->enter.length);
     if (screen->is_transmitting)
         write_marked(screen->output, screen->transmit.bytes, screen->transmit.length);

@@ -74,7 +74,7 @@ static bool is_obeyed(const struct padding *padding)
 {
     if (padding->is_mandatory || !cur_term)
         return padding->is_mandatory;
-    return !cur_term->flags[XON_XOFF] && whole_of(cur_term)->bauds >= cur_term->numbers[PADDING_BAUD_RATE];
+    return !cur_term->flags[XON_XOFF] && bauds_of(&whole_of(cur_term)->line) >= cur_term->numbers[PADDING_BAUD_RATE];
 }
 
 /* Lets the time of a padding pass. What was written with putchar() is on its way before. */

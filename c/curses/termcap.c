@@ -92,11 +92,11 @@ int tgetent(char *buffer, const char *type)
     if (terminal != cur_term)
         whole_of(terminal)->is_of_termcap = true;
     close_former(terminal);
-    set_curterm(terminal);
+    use_terminal(terminal);
     PC = terminal->strings[PAD_CHARACTER] ? *terminal->strings[PAD_CHARACTER] : '\0';
     BC = terminal->strings[BACKSPACE];
     UP = terminal->strings[CURSOR_UP];
-    ospeed = code_of_speed(whole_of(terminal)->bauds);
+    ospeed = code_of_speed(bauds_of(&whole_of(terminal)->line));
     return 1;
 }
 

@@ -1,19 +1,5 @@
 /* The terminals of term.h: entries that are open, with their capabilities in arrays. */
 
-struct terminal {
-    TERMINAL seen;             /* what term.h shows: the first member, so that a pointer to it is one to all of this */
-    struct terminal *next;
-    huttavel entry;
-    char *type;                /* the name that it was opened by: termname() */
-    char *names;               /* all its names, with `|` between them */
-    char *strings;             /* the memory of its strings */
-    char *result;              /* of tparm() */
-    int output;                /* the descriptor */
-    int bauds;                 /* baudrate(); ERR if it is unknown */
-    short pair;                /* the one that vid_puts() set last */
-    bool is_of_termcap;        /* only tgetent() opened it, which closes it */
-};
-
 #define COUNT_OF(array) (sizeof(array) / sizeof *(array))
 
 /* The positions of the flags and numbers that are asked for here. */
@@ -27,17 +13,10 @@ enum {
     NO_COLOR_VIDEO = 15
 };
 
-TERMINAL *cur_term;
 char ttytype[TYPE_LENGTH];
 
 /* All terminals, the last made first. */
 static struct terminal *terminals;
-
-/* All of a terminal that term.h shows; NULL without one. */
-static struct terminal *whole_of(TERMINAL *terminal)
-{
-    return (struct terminal *)terminal;
-}
 
 /* Copies the strings of the entry to memory, each with a NUL at its end, and shows them. Gives the size of them all;
    without memory it does only that. */
@@ -106,7 +85,6 @@ static void free_terminal(struct terminal *terminal)
 static TERMINAL *made_terminal(const struct text *entry, const char *type, int output, uint32_t *fault)
 {
     struct terminal *terminal = calloc(1, sizeof *terminal);
-    struct termios modes;
 
     *fault = HUTTAVEL_NO_MEMORY;
     if (!terminal)
@@ -118,8 +96,7 @@ static TERMINAL *made_terminal(const struct text *entry, const char *type, int o
         free_terminal(terminal);
         return NULL;
     }
-    terminal->output = output;
-    terminal->bauds = tcgetattr(output, &modes) == 0 ? bauds_of(&modes) : ERR;
+    open_line(&terminal->line, output);
     terminal->next = terminals;
     terminals = terminal;
     return &terminal->seen;
@@ -138,18 +115,18 @@ static void show_size(TERMINAL *terminal, int rows, int columns)
    if there is none. */
 static TERMINAL *opened_terminal(const char *type, int output, int *status, const char **reason)
 {
+    struct search search = {type, false, false};
     struct text entry;
     TERMINAL *terminal;
     uint32_t fault;
-    bool are_any;
 
     *status = 1;
-    if (cur_term && whole_of(cur_term)->output == output && !strcmp(whole_of(cur_term)->type, type))
+    if (cur_term && whole_of(cur_term)->line.input == output && !strcmp(whole_of(cur_term)->type, type))
         return cur_term;
-    entry = find_entry(type, &are_any);
+    entry = find_entry(&search);
     if (!entry.bytes) {
-        *status = are_any ? 0 : -1;
-        *reason = are_any ? "no entry of this name" : "there are no entries";
+        *status = search.has_folder && !search.is_short ? 0 : -1;
+        *reason = search.is_short ? "out of memory" : search.has_folder ? "no entry of this name" : "no entries";
         return NULL;
     }
     terminal = made_terminal(&entry, type, output, &fault);
@@ -178,10 +155,20 @@ static TERMINAL *usable_terminal(const char *type, int output, int *status, cons
     return NULL;
 }
 
+/* Makes a terminal cur_term, with the size that it has now. */
+static void use_terminal(TERMINAL *terminal)
+{
+    uint32_t rows, columns;
+
+    set_curterm(terminal);
+    ask_size(whole_of(terminal)->line.input, &rows, &columns);
+    if (rows)
+        show_size(terminal, (int)rows, (int)columns);
+}
+
 int setupterm(const char *type, int descriptor, int *status)
 {
     const char *name = type ? type : getenv("TERM"), *reason;
-    uint32_t rows, columns;
     int state;
     TERMINAL *terminal = usable_terminal(name, descriptor, &state, &reason);
 
@@ -194,10 +181,7 @@ int setupterm(const char *type, int descriptor, int *status)
     if (!terminal)
         return ERR;
     whole_of(terminal)->is_of_termcap = false;
-    set_curterm(terminal);
-    ask_size(descriptor, &rows, &columns);
-    if (rows)
-        show_size(terminal, (int)rows, (int)columns);
+    use_terminal(terminal);
     return OK;
 }
 
@@ -254,13 +238,6 @@ char *longname(void)
     if (bar)
         return bar + 1;
     return cur_term ? whole_of(cur_term)->names : NULL;
-}
-
-int baudrate(void)
-{
-    if (current)
-        return current->is_terminal ? bauds_of(&current->shell) : ERR;
-    return cur_term ? whole_of(cur_term)->bauds : ERR;
 }
 
 /* Whether there is a capability of this name and kind, and its position. */

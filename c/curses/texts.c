@@ -146,14 +146,14 @@ int wgetnstr(WINDOW *window, char *text, int most)
 
     if (!window || !text || is_shown(window))
         return ERR;
-    before = screen->program;
+    before = screen->line.program;
     is_echo = screen->is_echo;
     screen->is_echo = false;
     if (screen == current && before.c_lflag & ICANON)
         change_modes(0, ICANON, 0, 0);
     done = read_line(window, text, most < 0 ? INT_MAX : most, is_echo);
     if (screen == current && before.c_lflag & ICANON)
-        set_program(screen, &before);
+        set_program(&screen->line, &before);
     screen->is_echo = is_echo;
     return done;
 }

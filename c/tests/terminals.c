@@ -3,11 +3,14 @@
 #define _XOPEN_SOURCE 700
 #define _DEFAULT_SOURCE
 
+#include <fcntl.h>
 #include <stdint.h>
 #include <stdlib.h>
 #include <string.h>
+#include <sys/ioctl.h>
 #include <sys/stat.h>
 #include <sys/wait.h>
+#include <termios.h>
 #include <time.h>
 #include <unistd.h>
 
@@ -201,7 +204,8 @@ static void capabilities(void)
     CHECK(auto_right_margin && eat_newline_glitch && !xon_xoff && !hard_copy);
     CHECK(columns == 80 && lines == 24 && max_colors == 8 && max_pairs == 64 && init_tabs == 8);
     CHECK(label_width == -1 && width_status_line == -1);
-    CHECK(same(cursor_address, "\033[%i%p1%d;%p2%dH") && same(bell, "\007") && same(flash_screen, "\033[?5h$<100/>\033[?5l"));
+    CHECK(same(cursor_address, "\033[%i%p1%d;%p2%dH") && same(bell, "\007"));
+    CHECK(same(flash_screen, "\033[?5h$<100/>\033[?5l"));
     CHECK(same(key_f63, "\033[1;4R") && same(memory_lock, "\033l") && !dis_status_line && !box_chars_1);
     CHECK(tigetflag("am") == 1 && tigetflag("xon") == 0 && tigetflag("cup") == -1 && tigetflag("nonsense") == -1);
     CHECK(tigetflag(NULL) == -1);
@@ -245,6 +249,42 @@ static void two_terminals(void)
     CHECK(del_curterm(console) == OK && cur_term == xterm);
     CHECK(del_curterm(console) == ERR && del_curterm(NULL) == ERR);
     CHECK(del_curterm(xterm) == OK && !cur_term && !*ttytype);
+}
+
+/* What echoes on a line. */
+static bool is_echoing(int line)
+{
+    struct termios modes;
+
+    CHECK(tcgetattr(line, &modes) == 0);
+    return (modes.c_lflag & ECHO) != 0;
+}
+
+/* The modes, the size and the speed of a pseudoterminal, without a screen. */
+static void modes(void)
+{
+    int keyboard = posix_openpt(O_RDWR | O_NOCTTY), status = 5, output = dup(1), line;
+    struct winsize size = {20, 60, 0, 0};
+    struct termios silent;
+
+    CHECK(keyboard >= 0 && grantpt(keyboard) == 0 && unlockpt(keyboard) == 0);
+    line = open(ptsname(keyboard), O_RDWR | O_NOCTTY);
+    CHECK(line >= 0 && ioctl(keyboard, TIOCSWINSZ, &size) == 0 && tcgetattr(line, &silent) == 0);
+    silent.c_lflag &= ~(tcflag_t)ECHO;
+    cfsetospeed(&silent, B9600);
+    CHECK(setupterm("xterm", line, &status) == OK && lines == 20 && columns == 60);
+    CHECK(erasechar() == '\177' && killchar() == '\025' && resetty() == ERR && savetty() == OK);
+    CHECK(tcsetattr(line, TCSANOW, &silent) == 0 && def_prog_mode() == OK);
+    CHECK(reset_shell_mode() == OK && is_echoing(line) && reset_prog_mode() == OK && !is_echoing(line));
+    CHECK(resetty() == OK && is_echoing(line) && reset_prog_mode() == OK && is_echoing(line));
+    CHECK(tcsetattr(line, TCSANOW, &silent) == 0 && def_shell_mode() == OK && baudrate() == 9600);
+    CHECK(del_curterm(cur_term) == OK);
+    /* The same speed, of standard output. */
+    CHECK(dup2(line, 1) == 1 && tgetent(NULL, "xterm") == 1 && ospeed == 13 && baudrate() == 9600);
+    CHECK(tgetnum("li") == 20 && del_curterm(cur_term) == OK && dup2(output, 1) == 1);
+    close(line);
+    close(output);
+    close(keyboard);
 }
 
 static void parameters(void)
@@ -386,7 +426,8 @@ static void termcap(void)
     char buffer[2048] = "none", memory[64], *area = memory, *string;
 
     CHECK(tgetent(buffer, "linux") == 1 && !*buffer && same(termname(), "linux"));
-    CHECK(tgetflag("am") == 1 && tgetflag("xo") == 1 && tgetflag("hc") == 0 && tgetflag("co") == 0 && tgetflag("b") == 0);
+    CHECK(tgetflag("am") == 1 && tgetflag("xo") == 1 && tgetflag("hc") == 0);
+    CHECK(tgetflag("co") == 0 && tgetflag("b") == 0 && tgetflag(NULL) == 0);
     CHECK(tgetnum("Co") == 8 && tgetnum("co") == -1 && tgetnum("am") == -1 && tgetnum(NULL) == -1);
     string = tgetstr("cm", &area);
     CHECK(string == memory && same(string, "\033[%i%p1%d;%p2%dH") && area == memory + strlen(string) + 1);
@@ -423,6 +464,7 @@ int main(void)
     no_terminal();
     sizes();
     two_terminals();
+    modes();
     parameters();
     padding();
     attributes();
