@@ -43,6 +43,7 @@
 #include "curses/definitions.c"
 #include "curses/sizes.c"
 #include "curses/terminals.c"
+#include "curses/names.c"
 #include "curses/strings.c"
 #include "curses/renditions.c"
 #include "curses/termcap.c"

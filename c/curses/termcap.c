@@ -1,6 +1,6 @@
 /* The calls of termcap.h. */
 
-/* The codes of capabilities, in the order of term(5). Where one stands twice, the first counts. */
+/* The codes of capabilities, in the order of term(5). Where one stands twice, the first counts that the entry has. */
 static const char flag_codes[][3] = {
     "bw", "am", "xb", "xs", "xn", "eo", "gn", "hc", "km", "hs", "in", "da", "db", "mi", "ms", "os", "es", "xt",
     "hz", "ul", "xo", "nx", "5i", "HC", "NR", "NP", "ND", "cc", "ut", "hl", "YA", "YB", "YC", "YD", "YE", "YF",
@@ -39,8 +39,8 @@ static const char string_codes[][3] = {
     "nl", "bc", "ko", "ma", "G2", "G3", "G1", "G4", "GR", "GL", "GU", "GD", "GH", "GV", "GC", "ml", "mu", "bx"
 };
 
-/* The positions of the strings that tgetent() takes. */
-enum { CURSOR_UP = 19, PAD_CHARACTER = 104, BACKSPACE = 397 };
+/* The positions of the flag and the strings that are asked for here. */
+enum { BACKSPACES = 37, CURSOR_LEFT = 14, CURSOR_UP = 19, PAD_CHARACTER = 104 };
 
 char PC, *BC, *UP;
 short ospeed;
@@ -54,6 +54,40 @@ static int position_of(const char *code, const char (*codes)[3], size_t count)
         if (!strncmp(code, codes[n], 2))
             return (int)n;
     return -1;
+}
+
+/* Whether the cursor goes left by a backspace. */
+static bool is_backspacing(void)
+{
+    const char *left = cur_term ? cur_term->strings[CURSOR_LEFT] : NULL;
+
+    return left && !strcmp(left, "\b");
+}
+
+/* The first string of a code that the entry has, or NULL. */
+static char *first_string(const char *code)
+{
+    size_t n;
+
+    for (n = 0; cur_term && code && n < COUNT_OF(string_codes); n++)
+        if (cur_term->strings[n] && !strncmp(code, string_codes[n], 2))
+            return cur_term->strings[n];
+    return NULL;
+}
+
+/* The same, but where an entry of terminfo has no such string, it is another one: termcap has fewer strings to begin
+   with, and one to go left if that is not a backspace. */
+static char *string_of_code(const char *code)
+{
+    char *string = first_string(code);
+
+    if (string || !code)
+        return string;
+    if (!strncmp(code, "rs", 2))
+        return first_string("r2");
+    if (!strncmp(code, "i2", 2))
+        return first_string("i3");
+    return !strncmp(code, "bc", 2) && !is_backspacing() ? first_string("le") : NULL;
 }
 
 /* The code of a speed; 0 if it is unknown. */
@@ -94,7 +128,7 @@ int tgetent(char *buffer, const char *type)
     close_former(terminal);
     use_terminal(terminal);
     PC = terminal->strings[PAD_CHARACTER] ? *terminal->strings[PAD_CHARACTER] : '\0';
-    BC = terminal->strings[BACKSPACE];
+    BC = string_of_code("bc");
     UP = terminal->strings[CURSOR_UP];
     ospeed = code_of_speed(bauds_of(&whole_of(terminal)->line));
     return 1;
@@ -104,6 +138,8 @@ int tgetflag(const char *code)
 {
     int position = position_of(code, flag_codes, COUNT_OF(flag_codes));
 
+    if (position == BACKSPACES && is_backspacing())
+        return true;
     return cur_term && position >= 0 && cur_term->flags[position];
 }
 
@@ -116,8 +152,7 @@ int tgetnum(const char *code)
 
 char *tgetstr(const char *code, char **area)
 {
-    int position = position_of(code, string_codes, COUNT_OF(string_codes));
-    char *string = cur_term && position >= 0 ? cur_term->strings[position] : NULL, *copy;
+    char *string = string_of_code(code), *copy;
 
     if (!string || !area || !*area)
         return string;

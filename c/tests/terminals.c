@@ -126,8 +126,8 @@ static const char *const made[] = {"general", "paper", "bare"};
 
 static void make_entries(void)
 {
-    /* bold, sgr0, sitm; and pad in place of sgr0. */
-    static const int positions[3] = {27, 39, 311}, padded[3] = {27, 104, 311};
+    /* bold, sgr0, sitm; and cub1, pad, sitm. */
+    static const int positions[3] = {27, 39, 311}, padded[3] = {14, 104, 311};
     static const char *const strings[3] = {"<b>", "<0>", "<i>"};
 
     if (!mkdtemp(folder)) {
@@ -210,6 +210,9 @@ static void capabilities(void)
     CHECK(tigetflag("am") == 1 && tigetflag("xon") == 0 && tigetflag("cup") == -1 && tigetflag("nonsense") == -1);
     CHECK(tigetflag(NULL) == -1);
     CHECK(tigetnum("cols") == 80 && tigetnum("lw") == -1 && tigetnum("am") == -2);
+    CHECK(same(tigetstr("kDC"), "\033[3;2~") && same(tigetstr("sitm"), "\033[3m") && tigetstr("meml") == memory_lock);
+    CHECK(tigetflag("OTbs") == 1 && tigetflag("OTxr") == 0 && tigetnum("OTug") == -1 && tigetnum("OTbs") == -2);
+    CHECK(!tigetstr("OTbc"));
     CHECK(tigetstr("cup") == cursor_address && !tigetstr("dsl") && tigetstr("cols") == (char *)-1);
     CHECK(same(termname(), "xterm") && !strncmp(ttytype, "xterm|", 6) && *longname() && !strchr(longname(), '|'));
     open_on("xterm");
@@ -427,7 +430,7 @@ static void termcap(void)
 
     CHECK(tgetent(buffer, "linux") == 1 && !*buffer && same(termname(), "linux"));
     CHECK(tgetflag("am") == 1 && tgetflag("xo") == 1 && tgetflag("hc") == 0);
-    CHECK(tgetflag("co") == 0 && tgetflag("b") == 0 && tgetflag(NULL) == 0);
+    CHECK(tgetflag("bs") == 1 && tgetflag("co") == 0 && tgetflag("b") == 0 && tgetflag(NULL) == 0);
     CHECK(tgetnum("Co") == 8 && tgetnum("co") == -1 && tgetnum("am") == -1 && tgetnum(NULL) == -1);
     string = tgetstr("cm", &area);
     CHECK(string == memory && same(string, "\033[%i%p1%d;%p2%dH") && area == memory + strlen(string) + 1);
@@ -439,7 +442,9 @@ static void termcap(void)
     /* Another entry, also one of a terminal that curses does not use. */
     CHECK(tgetent(NULL, "xterm") == 1 && same(termname(), "xterm") && tgetnum("co") == 80 && tgetflag("xo") == 0);
     CHECK(tgetent(NULL, "xterm") == 1 && tgetnum("li") == 24);
+    CHECK(same(tgetstr("r1", NULL), "\033c") && same(tgetstr("rs", NULL), "\033[!p\033[?3;4l\033[4l\033>"));
     CHECK(tgetent(NULL, "paper") == 1 && tgetflag("hc") == 1 && PC == '<' && !UP);
+    CHECK(same(BC, "<b>") && BC == tgetstr("bc", NULL) && tgetflag("bs") == 0);
     CHECK(tgetent(buffer, "no-such-terminal") == 0 && tgetent(buffer, "") == 0 && tgetent(buffer, NULL) == 0);
     CHECK(same(termname(), "paper"));
     CHECK(del_curterm(cur_term) == OK);
