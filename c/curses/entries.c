@@ -139,6 +139,14 @@ static struct text find_entry(struct search *search)
     return text.bytes ? text : read_among(SYSTEM_FOLDERS, search);
 }
 
+/* Why none was found. */
+static const char *why_none(const struct search *search)
+{
+    if (search->is_short)
+        return "out of memory";
+    return search->has_folder ? "no entry of this name" : "no folder of entries";
+}
+
 /* A number of 16 bits of an entry; 0xffff past its end. */
 static unsigned short_at(const struct text *entry, size_t place)
 {

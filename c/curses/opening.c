@@ -104,7 +104,7 @@ static SCREEN *made_screen(const char *type, int output, int input, const char *
     ask_size(output, &rows, &columns);
     fault = screen->entry.bytes ? open_handle(screen, &screen->handle, rows, columns) : HUTTAVEL_OK;
     if (!screen->entry.bytes || fault != HUTTAVEL_OK || !screen->name || !screen->waiting.bytes) {
-        *reason = screen->entry.bytes ? huttavel_fault_text(fault) : "no entry of this name";
+        *reason = screen->entry.bytes ? huttavel_fault_text(fault) : why_none(&search);
         free_screen(screen);
         return NULL;
     }

@@ -69,7 +69,8 @@ char *tiparm(const char *text, ...)
 }
 
 /* Whether a padding of cur_term's strings is obeyed: a terminal that stops the line by itself (`xon`) needs it only
-   where it is mandatory, and so does one whose line is slower than `pb`. */
+   where it is mandatory, and so does one whose line is slower than `pb`. A speed that is unknown counts as slower than
+   any `pb`, and `pb` is -1 where the entry has none. */
 static bool is_obeyed(const struct padding *padding)
 {
     if (padding->is_mandatory || !cur_term)

@@ -126,7 +126,7 @@ static TERMINAL *opened_terminal(const char *type, int output, int *status, cons
     entry = find_entry(&search);
     if (!entry.bytes) {
         *status = search.has_folder && !search.is_short ? 0 : -1;
-        *reason = search.is_short ? "out of memory" : search.has_folder ? "no entry of this name" : "no entries";
+        *reason = why_none(&search);
         return NULL;
     }
     terminal = made_terminal(&entry, type, output, &fault);
