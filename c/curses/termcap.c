@@ -75,8 +75,8 @@ static char *first_string(const char *code)
     return NULL;
 }
 
-/* The same, but where an entry of terminfo has no such string, it is another one: termcap has fewer strings to begin
-   with, and one to go left if that is not a backspace. */
+/* The same, but where an entry of terminfo has no such string, it is another one: termcap has fewer strings that begin
+   and reset, and one that goes left if that is not a backspace. */
 static char *string_of_code(const char *code)
 {
     char *string = first_string(code);
@@ -84,7 +84,7 @@ static char *string_of_code(const char *code)
     if (string || !code)
         return string;
     if (!strncmp(code, "rs", 2))
-        return first_string("r2");
+        return first_string("r1") ? NULL : first_string("r2");
     if (!strncmp(code, "i2", 2))
         return first_string("i3");
     return !strncmp(code, "bc", 2) && !is_backspacing() ? first_string("le") : NULL;

@@ -126,8 +126,8 @@ static const char *const made[] = {"general", "paper", "bare"};
 
 static void make_entries(void)
 {
-    /* bold, sgr0, sitm; and cub1, pad, sitm. */
-    static const int positions[3] = {27, 39, 311}, padded[3] = {14, 104, 311};
+    /* bold, sgr0, sitm; and cub1, pad, rs2. */
+    static const int positions[3] = {27, 39, 311}, padded[3] = {14, 104, 123};
     static const char *const strings[3] = {"<b>", "<0>", "<i>"};
 
     if (!mkdtemp(folder)) {
@@ -442,9 +442,10 @@ static void termcap(void)
     /* Another entry, also one of a terminal that curses does not use. */
     CHECK(tgetent(NULL, "xterm") == 1 && same(termname(), "xterm") && tgetnum("co") == 80 && tgetflag("xo") == 0);
     CHECK(tgetent(NULL, "xterm") == 1 && tgetnum("li") == 24);
-    CHECK(same(tgetstr("r1", NULL), "\033c") && same(tgetstr("rs", NULL), "\033[!p\033[?3;4l\033[4l\033>"));
+    CHECK(same(tgetstr("r1", NULL), "\033c") && !tgetstr("rs", NULL));
     CHECK(tgetent(NULL, "paper") == 1 && tgetflag("hc") == 1 && PC == '<' && !UP);
     CHECK(same(BC, "<b>") && BC == tgetstr("bc", NULL) && tgetflag("bs") == 0);
+    CHECK(!tgetstr("r1", NULL) && same(tgetstr("rs", NULL), "<i>"));
     CHECK(tgetent(buffer, "no-such-terminal") == 0 && tgetent(buffer, "") == 0 && tgetent(buffer, NULL) == 0);
     CHECK(same(termname(), "paper"));
     CHECK(del_curterm(cur_term) == OK);
