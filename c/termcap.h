@@ -9,7 +9,8 @@
 extern "C" {
 #endif
 
-/* What tgetent() sets, and no call here reads: the first byte of the code `pc`, and the strings of `bc` and `up`. */
+/* What tgetent() sets, and no call here reads: the first byte of the code `pc`, and the strings of `bc` and `up`. A
+ * program may define these itself, and ospeed too. */
 extern char PC, *BC, *UP;
 
 /* The speed of the terminal that tgetent() opened, in codes: 1 is 50 bauds, 13 is 9,600, 15 is 38,400 or more, 0 is

@@ -42,8 +42,16 @@ static const char string_codes[][3] = {
 /* The positions of the flag and the strings that are asked for here. */
 enum { BACKSPACES = 37, CURSOR_LEFT = 14, CURSOR_UP = 19, PAD_CHARACTER = 104 };
 
-char PC, *BC, *UP;
-short ospeed;
+/* A program may define variables of these names itself, as programs for termcap do: then they are meant. */
+#ifdef __GNUC__
+#define OR_OF_PROGRAM __attribute__((__weak__))
+#else
+#define OR_OF_PROGRAM
+#endif
+
+OR_OF_PROGRAM char PC;
+OR_OF_PROGRAM char *BC, *UP;
+OR_OF_PROGRAM short ospeed;
 
 /* The position of a code; -1 without one. */
 static int position_of(const char *code, const char (*codes)[3], size_t count)
