@@ -253,9 +253,3 @@ screen_place d screen part rows columns row column size screen_is part_is =
     let widths : screen.columns ≡ d.columns = ap (λ (s : Area). s.columns) screen_is in
     let fits : IsSize part.rows part.columns = record { some_rows = a.2; some_columns = a.3; few_rows = omega (arith, a.4, size.few_rows); few_columns = omega (arith, a.5, size.few_columns) } in
     record { size = screen_is_size part.rows part.columns fits; on_screen = (omega (arith, a.4), omega (arith, a.5)) }
-
-pub pad_place : (d : DeskView) (rows columns : ℕ) → 1 ≤ rows → 1 ≤ columns → rows * columns ≤ 1000000 → IsRootPlace d rows columns None
-pad_place d rows columns h k l =
-    let tall : rows * 1 ≤ rows * columns = mul-le rows 1 rows columns (omega arith) k in
-    let wide : 1 * columns ≤ rows * columns = mul-le 1 columns rows columns h (omega arith) in
-    record { size = record { some_rows = h; some_columns = k; few_rows = omega (arith, tall); few_columns = omega (arith, wide); few_places = l }; on_screen = tt }

@@ -95,7 +95,7 @@ length-marked_lines first end mark marks = length-map-range_with_len _ 0 (length
 pub marked_is_window : (first end : ℕ) (mark : Bool) (w : WindowView) → IsWindow w → IsWindow (marked first end mark w)
 marked_is_window first end mark w h = record { state = h.state; touched = length-marked_lines first end mark w.touched ∙ h.touched }
 
-get_or_any : {X : Type 0} (xs : List X) (i : ℕ) (d e : X) → i < length xs → get_or xs i d ≡ get_or xs i e
+pub get_or_any : {X : Type 0} (xs : List X) (i : ℕ) (d e : X) → i < length xs → get_or xs i d ≡ get_or xs i e
 get_or_any [] i d e h = absurd (omega (arith, h))
 get_or_any (x ∷ xs) zero d e h = refl
 get_or_any (x ∷ xs) (suc i) d e h = get_or_any xs i d e (omega (arith, h))
@@ -179,7 +179,7 @@ can_find d old i w frame items h is =
     let P : List Sheet → Type 0 = λ ss. HasSheet ss frame.surface in
     subst P (sym is) (draws_on d old i w frame h)
 
-sheet_path : (d : DeskView) (number k : ℕ) (sheet : Sheet) → Finds d number k sheet → sheet ≡ get_or d.surfaces k no_sheet
+pub sheet_path : (d : DeskView) (number k : ℕ) (sheet : Sheet) → Finds d number k sheet → sheet ≡ get_or d.surfaces k no_sheet
 sheet_path d number k sheet f = f.sheet_is ∙ get_or_any d.surfaces k sheet no_sheet f.within
 
 pub surface_path : (d old : DeskView) (i k : ℕ) (w : WindowView) (frame : Frame) (sheet : Sheet) → Draws d old i w frame → Finds d frame.surface k sheet → sheet.surface ≡ surface_at d (window_at d i).frame.surface

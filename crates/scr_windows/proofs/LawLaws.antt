@@ -45,15 +45,15 @@ deleting d number other k h alone apart e =
     (m.0, ap found there, m.2, λ r c. (λ j. inside_at (surface_at (deleted d number) (m.2 j).frame.surface) (m.2 j).frame.area r c) ∙ ap (λ (s : SurfaceView). inside_at s (window_at d k).frame.area r c) cells)
 
 -- two indices of one number are one
-one_index : (d : DeskView) → AreAscending d.windows → (m i : ℕ) → m < length d.windows → i < length d.windows → (window_at d m).frame.number ≡ (window_at d i).frame.number → m ≡ i
+pub one_index : (d : DeskView) → AreAscending d.windows → (m i : ℕ) → m < length d.windows → i < length d.windows → (window_at d m).frame.number ≡ (window_at d i).frame.number → m ≡ i
 one_index d up m i l k e = elim (three m i) [ inl less ↦ absurd (let b = up m i no_window less k in omega (arith, b, e)) | inr rest ↦ elim rest [ inl same ↦ same | inr more ↦ absurd (let b = up i m no_window more l in omega (arith, b, e)) ] ]
   where
     three : (a b : ℕ) → (a < b) ⊎ ((a ≡ b) ⊎ (b < a))
     three a b = grind arith
 
 -- the parent of a window, and where it lies in it
-parent_there : (d : DeskView) (number k i : ℕ) → IsDesk d → k < length d.windows → (window_at d k).frame.parent ≡ Some number → index_of d number ≡ Ok i → IsChild (window_at d k).frame (window_at d i).frame
-parent_there d number k i h l parent e =
+pub child_of : (d : DeskView) (number k i : ℕ) → IsDesk d → k < length d.windows → i < length d.windows → (window_at d k).frame.parent ≡ Some number → (window_at d i).frame.number ≡ number → IsChild (window_at d k).frame (window_at d i).frame
+child_of d number k i h l here parent is =
     let frames : List Frame = map frame_of d.windows in
     let many : length frames ≡ length d.windows = length_map frame_of d.windows in
     let own : get_or frames k no_frame ≡ (window_at d k).frame = get_or-map frame_of d.windows k no_window no_frame l in
@@ -61,12 +61,13 @@ parent_there d number k i h l parent e =
     let has = subst P (ap (λ (f : Frame). f.parent) own ∙ parent) (h.frames.parents k no_frame (omega (arith, many))) in
     let m : ℕ = has.0 in
     let above : get_or frames m no_frame ≡ (window_at d m).frame = get_or-map frame_of d.windows m no_window no_frame (omega (arith, has.1, many)) in
-    let at' = found_number d number i e in
-    let same : m ≡ i = one_index d (desk_ascends d h) m i (omega (arith, has.1, many)) at'.0 (sym (ap (λ (f : Frame). f.number) above) ∙ has.2 ∙ sym at'.1) in
-    let Q : Frame → Frame → Type 0 = λ f g. IsChild f g in
+    let same : m ≡ i = one_index d (desk_ascends d h) m i (omega (arith, has.1, many)) here (sym (ap (λ (f : Frame). f.number) above) ∙ has.2 ∙ sym is) in
     let child : IsChild (window_at d k).frame (window_at d m).frame = (let R : Frame → Type 0 = λ f. IsChild f (window_at d m).frame in let S : Frame → Type 0 = λ g. IsChild (get_or frames k no_frame) g in subst R own (subst S above has.3)) in
     let T : ℕ → Type 0 = λ n. IsChild (window_at d k).frame (window_at d n).frame in
     subst T same child
+
+parent_there : (d : DeskView) (number k i : ℕ) → IsDesk d → k < length d.windows → (window_at d k).frame.parent ≡ Some number → index_of d number ≡ Ok i → IsChild (window_at d k).frame (window_at d i).frame
+parent_there d number k i h l parent e = let at = found_number d number i e in child_of d number k i h l at.0 parent at.1
 
 pub sharing : SubwindowsShareCells
 sharing d number k i h l parent e r c =

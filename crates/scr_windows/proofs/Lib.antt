@@ -10,6 +10,7 @@ pub mod FamilyLaws
 pub mod FilledLaws
 pub mod FrameLaws
 pub mod GridLaws
+pub mod KeepingLaws
 pub mod LawLaws
 pub mod LendingLaws
 pub mod MakingLaws
@@ -18,6 +19,7 @@ pub mod NumberLaws
 pub mod PlaceLaws
 pub mod ReadingLaws
 pub mod RemovingLaws
+pub mod ResizingLaws
 pub mod RunLaws
 pub mod SheetLaws
 pub mod ShiftLaws

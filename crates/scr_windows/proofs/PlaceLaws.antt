@@ -1,10 +1,10 @@
 -- A surface is its places.
-use Rattle.std.proofs.Common.{◌≡◌, ℕ, ◌-◌, ◌<◌, sym, ◌∙◌, refl, arith, cond, Bool, true, false}
+use Rattle.std.proofs.Common.{◌≡◌, ℕ, ◌-◌, ◌<◌, sym, ◌∙◌, refl, arith, cond, Bool, true, false, ltb, ◌&&◌}
 use Rattle.scr_cells.specs.CellViews.{CellView, blank_cell}
 use Rattle.scr_cells.specs.Grids.{GridLaws, grid_of}
 use Rattle.scr_windows.specs.declared.surfaces.areas.Area.{Area}
 use Rattle.scr_windows.specs.Surfaces.SurfaceLaws.{SurfaceLaws}
-use Rattle.scr_windows.specs.Surfaces.SurfaceViews.{SurfaceView, IsSurface, cell_of, filled, is_inside}
+use Rattle.scr_windows.specs.Surfaces.SurfaceViews.{SurfaceView, IsSurface, IsSurfaceSize, cell_of, filled, inside_at, is_inside, resized_surface}
 use Rattle.scr_windows.proofs.FilledLaws.{grid_same, is_inside_tells}
 use Rattle.scr_windows.proofs.RunLaws.{lines_at, whole_of}
 
@@ -37,6 +37,15 @@ sized : (s : SurfaceView) (area : Area) (f : ℕ → ℕ → CellView) → ((fil
 unfolding filled
 sized s area f = (refl, refl)
 
+resized_is_surface : GridLaws CellView → (s : SurfaceView) (area : Area) (rows columns : ℕ) (cell : CellView) → IsSurfaceSize rows columns → IsSurface (resized_surface s area rows columns cell)
+unfolding resized_surface
+resized_is_surface laws s area rows columns cell size = record { size = size; whole = whole_of laws rows columns _ _ refl }
+
+resized_has : GridLaws CellView → (s : SurfaceView) (area : Area) (rows columns : ℕ) (cell : CellView) (r c : ℕ) → r < rows → c < columns
+    → cell_of (resized_surface s area rows columns cell) r c ≡ cond (ltb r area.rows && ltb c area.columns) (inside_at s area r c) cell
+unfolding resized_surface
+resized_has laws s area rows columns cell r c h k = lines_at laws (record { rows = rows; columns = columns; lines = s.lines }) _ (λ r c. cond (ltb r area.rows && ltb c area.columns) (inside_at s area r c) cell) refl r c h k
+
 pub the_laws : GridLaws CellView → SurfaceLaws
 the_laws laws = record {
   same = same_surfaces;
@@ -47,4 +56,6 @@ the_laws laws = record {
   filled_same = filled_alike;
   blank = λ rows columns size. record { size = size; whole = whole_of laws rows columns _ (λ _ _. blank_cell) refl };
   blank_at = λ rows columns r c h k. lines_at laws (record { rows = rows; columns = columns; lines = grid_of rows columns (λ _ _. blank_cell) }) _ (λ _ _. blank_cell) refl r c h k;
+  resized = resized_is_surface laws;
+  resized_at = resized_has laws;
 }

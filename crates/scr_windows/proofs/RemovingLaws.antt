@@ -29,7 +29,7 @@ from_not true h = sym h
 from_not false h = refl
 
 -- the parent of a frame is among these
-abbrev HasParent : List Frame → Frame → Type 0
+abbrev pub HasParent : List Frame → Frame → Type 0
 HasParent frames frame = MatchOption frame.parent (Unit {0}) (λ number. (k : ℕ) × (k < length frames) × ((get_or frames k no_frame).number ≡ number) × IsChild frame (get_or frames k no_frame))
 
 parent_kept : (frames : List Frame) (number : ℕ) (frame : Frame) → is_number number frame.parent ≡ false → HasParent frames frame → HasParent (filter (other_frame number) frames) frame
@@ -127,11 +127,14 @@ none_passes p xs h = λ k d l. fails (p (get_or xs k d)) (list_any p xs) h (λ t
     fails true all h f = sym (f refl) ∙ h
     fails false all h f = refl
 
+-- no frame has a window without subwindows as its parent
+pub childless : (d : DeskView) (number : ℕ) → has_children number d.windows ≡ false → All (λ (f : Frame). is_number number f.parent ≡ false) (map frame_of d.windows)
+childless d number alone = All-map (λ (f : Frame). is_number number f.parent ≡ false) frame_of d.windows (none_passes _ d.windows alone)
+
 pub deleted_is_desk : (d : DeskView) (number : ℕ) → IsDesk d → has_children number d.windows ≡ false → IsDesk (deleted d number)
 deleted_is_desk d number h alone =
     let frames : List Frame = map frame_of d.windows in
-    let none : All (λ (w : WindowView). is_number number w.frame.parent ≡ false) d.windows = none_passes _ d.windows alone in
-    let free : All (λ (f : Frame). is_number number f.parent ≡ false) frames = All-map (λ (f : Frame). is_number number f.parent ≡ false) frame_of d.windows none in
+    let free : All (λ (f : Frame). is_number number f.parent ≡ false) frames = childless d number alone in
     let Q : List Frame → Type 0 = λ fs. AreFrames d.rows d.columns (size_on (without_surface number d.surfaces)) d.made fs in
     record {
       size = h.size;
@@ -163,7 +166,6 @@ alone_desk d number h alone k l other on =
     let frames : List Frame = map frame_of d.windows in
     let many : length frames ≡ length d.windows = length_map frame_of d.windows in
     let at : get_or frames k no_frame ≡ (window_at d k).frame = get_or-map frame_of d.windows k no_window no_frame l in
-    let none : All (λ (w : WindowView). is_number number w.frame.parent ≡ false) d.windows = none_passes _ d.windows alone in
-    let free : All (λ (f : Frame). is_number number f.parent ≡ false) frames = All-map (λ (f : Frame). is_number number f.parent ≡ false) frame_of d.windows none in
+    let free : All (λ (f : Frame). is_number number f.parent ≡ false) frames = childless d number alone in
     other (ap (λ (f : Frame). f.number) (sym at)
     ∙ alone_on frames number h.frames.roots h.frames.parents free (suc (get_or frames k no_frame).number) k (omega (arith, many)) (omega arith) (ap (λ (f : Frame). f.surface) at ∙ on))

@@ -7,6 +7,7 @@ pub mod Making
 pub mod Moving
 pub mod Reading
 pub mod Removing
+pub mod Resizing
 pub mod Scrolling
 pub mod Settings
 pub mod Subwindows

@@ -7,6 +7,7 @@ use Rattle.scr_windows.specs.Changes.{index_of, write}
 use Rattle.scr_windows.specs.Calls.Moving.{move_window_call, move_derived_call}
 use Rattle.scr_windows.specs.Calls.Reading.{at}
 use Rattle.scr_windows.specs.Calls.Removing.{has_children, deleted}
+use Rattle.scr_windows.specs.Calls.Resizing.{resize_window_call}
 
 -- newwin(): every window that is found lies on its surface and, if it has a place there, wholly on the screen.
 abbrev pub WindowsArePlaced : Type 0
@@ -31,6 +32,13 @@ WritingStaysInside =
     → r < (window_at desk k).frame.area.rows → c < (window_at desk k).frame.area.columns
     → ((window_at desk k).frame.surface ≡ (window_at desk i).frame.surface → is_inside (window_at desk i).frame.area ((window_at desk k).frame.area.top + r) ((window_at desk k).frame.area.left + c) ≡ false)
     → at (write desk i first end f) k r c ≡ at desk k r c
+
+-- wresize(): every other window stays as it is, with all its cells, and a subwindow at another size changes no cell.
+pub record ResizingKeepsOthers : Type 0 where
+  pub others : (desk : DeskView) (win rows columns k : ℕ) → IsDesk desk → k < length desk.windows → (window_at desk k).frame.number ≢ win
+      → (window_at (resize_window_call desk win rows columns).0 k ≡ window_at desk k) × ((r c : ℕ) → at (resize_window_call desk win rows columns).0 k r c ≡ at desk k r c)
+  pub subwindow : (desk : DeskView) (win rows columns i parent : ℕ) → index_of desk win ≡ Ok i → (window_at desk i).frame.parent ≡ Some parent
+      → (resize_window_call desk win rows columns).0.surfaces ≡ desk.surfaces
 
 -- mvwin(), mvderwin(): no cell of any surface changes.
 pub record MovingChangesNoCell : Type 0 where

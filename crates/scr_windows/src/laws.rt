@@ -1,7 +1,7 @@
 //! Laws of desks, each the contract of a function that does nothing. A caller cites a law by calling its function.
 //!
 //! They are stated in `specs/Laws.antt`.
-ghost use Rattle.scr_windows.specs.Laws.{DeletingKeepsOthers, MovingChangesNoCell, SubwindowsShareCells, WindowsArePlaced, WritingStaysInside};
+ghost use Rattle.scr_windows.specs.Laws.{DeletingKeepsOthers, MovingChangesNoCell, ResizingKeepsOthers, SubwindowsShareCells, WindowsArePlaced, WritingStaysInside};
 ghost use Rattle.scr_windows.specs.Surfaces.SurfaceLaws.{SurfaceLaws};
 
 use scr_cells::{Cell, grid_laws};
@@ -32,6 +32,11 @@ pub fn windows_are_placed()
 /// Moving a window changes no cell. X/Open Curses Issue 7, mvwin().
 pub fn moving_changes_no_cell()
     ensures { MovingChangesNoCell }
+{}
+
+/// Another size of a window keeps every other window and its cells, and that of a subwindow changes no cell.
+pub fn resizing_keeps_others()
+    ensures { ResizingKeepsOthers }
 {}
 
 /// The laws of surfaces: what holds for every surface that is filled in an area.

@@ -4,9 +4,11 @@ ghost use Rattle.std.specs.List.{list_any, position};
 ghost use Rattle.scr_windows.specs.DeskViews.{WindowView, AreAscending, fresh_window};
 ghost use Rattle.scr_windows.specs.declared.faults.WinFault.TheVariants.{NoMemory};
 ghost use Rattle.scr_windows.specs.Changes.{marked, marked_lines};
+ghost use Rattle.scr_windows.specs.Calls.Resizing.{nearest, resized};
 
 use crate::faults::WinFault;
 use crate::frames::{Frame, WindowState};
+use crate::surfaces::Area;
 use scr_cells::{Attrs, Cell};
 use std::alloc::Global;
 use std::marker::Model;
@@ -52,6 +54,29 @@ impl Window {
             clear_ok: false,
             leave_ok: false,
         };
+        Ok(Window {
+            frame,
+            state,
+            touched,
+        })
+    }
+
+    /// The window with another area: the whole of it is the region, the cursor is at the nearest place inside, and
+    /// every line is touched. Fails only when memory runs out.
+    pub fn resized(&self, alloc: Global, area: Area) -> Result<Window, WinFault>
+        requires rows { 1 ≤ area.rows }
+        requires columns { 1 ≤ area.columns }
+        ensures { MatchResult result (λ window. window ≡ resized area self.now) (λ fault. fault ≡ NoMemory) }
+    {
+        let rows = area.rows as usize;
+        let mut touched = Vec::with_capacity(alloc, rows)?;
+        touched.resize(rows, true)?;
+        let mut frame = self.frame;
+        frame.area = area;
+        let mut state = self.state;
+        let (row, column) = state.cursor;
+        state.cursor = (nearest(area.rows, row), nearest(area.columns, column));
+        state.region = (0, area.rows - 1);
         Ok(Window {
             frame,
             state,
@@ -135,6 +160,14 @@ pub fn index_of_number(windows: &[Window], number: u32) -> Option<usize>
     } else {
         None
     }
+}
+
+// The place among so many that is nearest to this one.
+fn nearest(count: u32, place: u32) -> u32
+    requires { 1 ≤ count }
+    ensures { result ≡ nearest count place }
+{
+    if place < count { place } else { count - 1 }
 }
 
 // Whether any mark is set.

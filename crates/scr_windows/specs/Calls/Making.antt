@@ -54,9 +54,15 @@ window_in desk (Some area) row column = root_made desk area.rows area.columns (S
 unfoldable pub new_window_call : DeskView → ℕ → ℕ → ℕ → ℕ → DeskView × Result Win WinFault
 new_window_call desk rows columns row column = window_in desk (part_of (screen_area desk) rows columns row column) row column
 
--- newpad(): at most 1,000,000 places.
+-- The size of a pad: at least one place and at most 1,000,000.
+unfoldable pub pad_size : ℕ → ℕ → Result (ℕ × ℕ) WinFault
+pad_size rows columns = if rows == 0 || columns == 0 then Err OutOfWindow else if ltb 1000000 (rows * columns) then Err TooBig else Ok (rows, columns)
+
+-- A new pad of this size, refused if there is none.
+abbrev pub pad_in : DeskView → Result (ℕ × ℕ) WinFault → DeskView × Result Win WinFault
+pad_in desk (Err fault) = (desk, Err fault)
+pad_in desk (Ok size) = root_made desk size.0 size.1 None
+
+-- newpad()
 unfoldable pub new_pad_call : DeskView → ℕ → ℕ → DeskView × Result Win WinFault
-new_pad_call desk rows columns =
-    if rows == 0 || columns == 0 then (desk, Err OutOfWindow)
-    else if ltb 1000000 (rows * columns) then (desk, Err TooBig)
-    else root_made desk rows columns None
+new_pad_call desk rows columns = pad_in desk (pad_size rows columns)

@@ -1,4 +1,4 @@
--- Words of private functions: where a window that is made may lie.
+-- Words of private functions: where a window that is made, or gets another size, may lie.
 use Rattle.std.specs.Prelude.{ℕ, Option, ◌+◌, ◌≤◌, MatchOption}
 use Rattle.scr_windows.specs.declared.surfaces.areas.Area.{Area}
 use Rattle.scr_windows.specs.DeskViews.{DeskView, IsInsideOnScreen, window_at}

@@ -1,8 +1,8 @@
 -- Laws of surfaces: what follows from the definitions, as a check on them.
-use Rattle.std.specs.Prelude.{ℕ, ◌≡◌, ◌-◌, ◌<◌, if◌then◌else◌}
+use Rattle.std.specs.Prelude.{ℕ, ◌≡◌, ◌-◌, ◌<◌, ◌&&◌, ltb, if◌then◌else◌}
 use Rattle.scr_cells.specs.CellViews.{CellView, blank_cell}
 use Rattle.scr_windows.specs.declared.surfaces.areas.Area.{Area}
-use Rattle.scr_windows.specs.Surfaces.SurfaceViews.{SurfaceView, IsSurface, IsSurfaceSize, blank_surface, cell_of, filled, is_inside}
+use Rattle.scr_windows.specs.Surfaces.SurfaceViews.{SurfaceView, IsSurface, IsSurfaceSize, blank_surface, cell_of, filled, inside_at, is_inside, resized_surface}
 
 -- What follows from the definitions of surfaces.
 pub record SurfaceLaws : Type 0 where
@@ -20,3 +20,7 @@ pub record SurfaceLaws : Type 0 where
   -- A blank surface is a surface, and is blank everywhere.
   pub blank : (rows columns : ℕ) → IsSurfaceSize rows columns → IsSurface (blank_surface rows columns)
   pub blank_at : (rows columns r c : ℕ) → r < rows → c < columns → cell_of (blank_surface rows columns) r c ≡ blank_cell
+  -- A surface of another size is a surface, and has the cells that fit.
+  pub resized : (s : SurfaceView) (area : Area) (rows columns : ℕ) (cell : CellView) → IsSurfaceSize rows columns → IsSurface (resized_surface s area rows columns cell)
+  pub resized_at : (s : SurfaceView) (area : Area) (rows columns : ℕ) (cell : CellView) (r c : ℕ) → r < rows → c < columns
+      → cell_of (resized_surface s area rows columns cell) r c ≡ (if ltb r area.rows && ltb c area.columns then inside_at s area r c else cell)

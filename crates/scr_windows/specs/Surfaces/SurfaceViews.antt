@@ -1,5 +1,5 @@
 -- What windows are drawn on. X/Open Curses Issue 7, 'Screens, Windows and Terminals'.
-use Rattle.std.specs.Prelude.{ℕ, Bool, ◌≡◌, ◌+◌, ◌-◌, ◌*◌, ◌≤◌, List, ltb, leb, ◌&&◌}
+use Rattle.std.specs.Prelude.{ℕ, Bool, ◌≡◌, ◌+◌, ◌-◌, ◌*◌, ◌≤◌, List, ltb, leb, ◌&&◌, if◌then◌else◌}
 use Rattle.scr_cells.specs.CellViews.{CellView, blank_cell}
 use Rattle.scr_cells.specs.Grids.{grid_at, grid_filled, grid_of}
 use Rattle.scr_windows.specs.declared.surfaces.areas.Area.{Area}
@@ -46,6 +46,11 @@ inside_at surface area r c = cell_of surface (area.top + r) (area.left + c)
 unfoldable pub filled : SurfaceView → Area → (ℕ → ℕ → CellView) → SurfaceView
 filled surface area f =
     record surface { lines = grid_filled surface.rows surface.columns (is_inside area) (λ r c. f (r - area.top) (c - area.left)) (cell_of surface) }
+
+-- The cells of an area in a surface of another size of its own: what fits stays, and the rest gets this cell.
+unfoldable pub resized_surface : SurfaceView → Area → ℕ → ℕ → CellView → SurfaceView
+resized_surface surface area rows columns cell =
+    record { rows = rows; columns = columns; lines = grid_of rows columns (λ r c. if ltb r area.rows && ltb c area.columns then inside_at surface area r c else cell) }
 
 -- A surface with blanks without attributes everywhere.
 abbrev pub blank_surface : ℕ → ℕ → SurfaceView

@@ -1,11 +1,12 @@
 //! Calls that make a desk, windows with cells of their own, and pads. The definitions are in `specs/Calls/Making.antt`.
-ghost use Rattle.std.specs.Prelude.{◌≡◌, ◌+◌, ◌<◌, length, MatchResult, Ok};
+ghost use Rattle.std.specs.Prelude.{◌≡◌, ◌+◌, ◌<◌, length, IfOk, MatchResult, Ok};
 ghost use Rattle.scr_windows.specs.declared.faults.WinFault.TheVariants.{NoMemory};
 ghost use Rattle.scr_cells.specs.PictureViews.{IsSize};
 ghost use Rattle.scr_windows.specs.DeskViews.{HasSameSize, first_desk};
 ghost use Rattle.scr_windows.specs.Changes.{Allocated};
 ghost use Rattle.scr_windows.specs.Code.NewFrames.{IsRootPlace};
-ghost use Rattle.scr_windows.specs.Calls.Making.{screen_area, root_made, with_root, new_window_call, new_pad_call};
+ghost use Rattle.scr_windows.specs.Calls.Making.{screen_area, root_made, with_root, new_window_call, new_pad_call, pad_size};
+ghost use Rattle.scr_windows.specs.Surfaces.SurfaceViews.{IsSurfaceSize};
 
 use crate::calls::subwindows::{MOST, part_of};
 use crate::desks::Desk;
@@ -81,17 +82,12 @@ impl Desk {
         ensures call { Allocated self.old (new_pad_call self.old rows columns) (self.new, result) }
         ensures size { HasSameSize self.old self.new }
     {
-        if rows == 0 || columns == 0 {
-            return Err(WinFault::OutOfWindow);
-        }
-        if rows as u64 * columns as u64 > MOST_CELLS {
-            return Err(WinFault::TooBig);
-        }
+        let (rows, columns) = pad_size(rows, columns)?;
         self.add_root(alloc, rows, columns, None)
     }
 
     // The screen as an area.
-    fn screen_area(&self) -> Area
+    pub(crate) fn screen_area(&self) -> Area
         ensures area { result ≡ screen_area self.now }
         ensures size { IsSize self.now.rows self.now.columns }
     {
@@ -155,4 +151,19 @@ impl Desk {
         self.made = number;
         Ok(Win(number))
     }
+}
+
+// The size of a pad.
+#[tactic(auto, unfolding(crate::specs::Calls::Making::pad_size))]
+pub(crate) fn pad_size(rows: u32, columns: u32) -> Result<(u32, u32), WinFault>
+    ensures size { result ≡ pad_size rows columns }
+    ensures fits { IfOk result (λ size. IsSurfaceSize size.0 size.1) }
+{
+    if rows == 0 || columns == 0 {
+        return Err(WinFault::OutOfWindow);
+    }
+    if rows as u64 * columns as u64 > MOST_CELLS {
+        return Err(WinFault::TooBig);
+    }
+    Ok((rows, columns))
 }

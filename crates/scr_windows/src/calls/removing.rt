@@ -34,7 +34,7 @@ impl Desk {
 }
 
 // Whether some window is a subwindow of the window of a number.
-fn has_children(windows: &[Window], number: u32) -> bool
+pub(crate) fn has_children(windows: &[Window], number: u32) -> bool
     ensures { result ≡ has_children number windows.now }
 {
     windows

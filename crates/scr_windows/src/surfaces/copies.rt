@@ -1,11 +1,11 @@
 //! Blocks of cells that are read from an area, and laid over a part of one.
 ghost use Rattle.std.specs.Prelude.{◌≡◌, ◌+◌, ◌≤◌, IfOk};
 ghost use Rattle.scr_cells.specs.Grids.{grid_of};
-ghost use Rattle.scr_windows.specs.Surfaces.SurfaceViews.{IsPart, IsSurface, filled, inside_at};
+ghost use Rattle.scr_windows.specs.Surfaces.SurfaceViews.{IsPart, IsSurface, IsSurfaceSize, filled, inside_at, resized_surface};
 ghost use Rattle.scr_windows.specs.Surfaces.Formulas.{block_at, part_laid, part_of};
 
 use crate::surfaces::{Area, Surface};
-use scr_cells::{Cell, Grid, NoMemory};
+use scr_cells::{Cell, Grid, NoMemory, grid_laws};
 use std::alloc::Global;
 
 impl Surface {
@@ -19,6 +19,36 @@ impl Surface {
             block.push_row(self.line(area, row))?;
         }
         Ok(block)
+    }
+
+    /// Copies the cells of an area to a surface of another size of its own: what fits stays, and the rest gets a cell.
+    /// Fails only when memory runs out.
+    ///
+    /// The surface has at least one row and one column, and at most 1,000,000 places.
+    pub fn resized(
+        &self,
+        alloc: Global,
+        area: Area,
+        rows: u32,
+        columns: u32,
+        cell: Cell,
+    ) -> Result<Surface, NoMemory>
+        requires part { IsPart self.now area }
+        requires size { IsSurfaceSize rows columns }
+        ensures { IfOk result (λ surface. surface ≡ resized_surface self.now area rows columns cell) }
+    {
+        grid_laws::<Cell>();
+        let mut grid = Grid::new(alloc, rows, columns, cell)?;
+        let kept = Area {
+            top: area.top,
+            left: area.left,
+            rows: rows.min(area.rows),
+            columns: columns.min(area.columns),
+        };
+        for row in 0..kept.rows {
+            grid.lay(row, 0, self.line(kept, row));
+        }
+        Ok(Surface { grid })
     }
 
     /// Lays a block of cells over an area, from a row and a column on: as many places as the block has, which are in
