@@ -9,6 +9,7 @@ mod making;
 mod moving;
 mod reading;
 mod removing;
+mod resizing;
 mod scrolling;
 mod settings;
 mod subwindows;

@@ -58,7 +58,7 @@ fn call_of(line: &mut Line<'_>) -> Option<Call> {
         .or(on_settings(name, by))
 }
 
-// Calls that make, delete or move windows, or touch lines.
+// Calls that make, resize, delete or move windows, or touch lines.
 fn on_windows(name: &str, by: &mut Words<'_>) -> Option<Call> {
     Some(match name {
         "new_window" => Call::NewWindow(by.number(), by.number(), by.number(), by.number()),
@@ -66,6 +66,7 @@ fn on_windows(name: &str, by: &mut Words<'_>) -> Option<Call> {
         "derive" => Call::Derive(win(by), by.number(), by.number(), by.number(), by.number()),
         "sub" => Call::Sub(win(by), by.number(), by.number(), by.number(), by.number()),
         "sub_pad" => Call::SubPad(win(by), by.number(), by.number(), by.number(), by.number()),
+        "resize_window" => Call::ResizeWindow(win(by), by.number(), by.number()),
         "delete" => Call::Delete(win(by)),
         "move_window" => Call::MoveWindow(win(by), by.number(), by.number()),
         "move_derived" => Call::MoveDerived(win(by), by.number(), by.number()),

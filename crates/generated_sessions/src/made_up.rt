@@ -12,7 +12,7 @@ use std::alloc::Global;
 // window's rows H or columns V, a small number N, a number E not much above the last but one, a count S with a sign, a
 // flag F, a byte B, attributes A, a colour pair P, one of the first Q, a colour K, some bytes X, words Z, and a graphic
 // byte G.
-static LINES: [(&str, u32); 64] = [
+static LINES: [(&str, u32); 65] = [
     ("add_text 0 Z", 30),
     ("add_text 0 X", 6),
     ("move_cursor 0 R C", 24),
@@ -35,6 +35,7 @@ static LINES: [(&str, u32); 64] = [
     ("derive W H V H V", 3),
     ("sub W H V T L", 2),
     ("sub_pad W H V H V", 1),
+    ("resize_window W H V", 1),
     ("copy W O N N N V E E F", 2),
     ("overlay W O", 2),
     ("overwrite W O", 2),

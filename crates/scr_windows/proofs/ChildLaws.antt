@@ -1,6 +1,5 @@
 -- A subwindow more keeps a desk one.
-use Rattle.std.proofs.Common.{◌≡◌, ◌⊎◌, inl, inr, ℕ, ◌+◌, ◌-◌, ◌*◌, ◌<◌, ◌≤◌, sym, subst, ◌∙◌, ap, refl, arith, List, [], ◌∷◌, ◌++◌, length, map, get_or, Option, None, Some, Bool, true, false, cond, leb, ◌==◌, ◌&&◌}
-use Rattle.std.proofs.lemmas.Nat.{mul-le}
+use Rattle.std.proofs.Common.{◌≡◌, ◌⊎◌, inl, inr, ℕ, ◌+◌, ◌-◌, ◌<◌, ◌≤◌, sym, subst, ◌∙◌, ap, refl, arith, List, [], ◌∷◌, ◌++◌, length, map, get_or, Option, None, Some, Bool, true, false, cond, leb, ◌==◌, ◌&&◌}
 use Rattle.scr_cells.specs.CellViews.{blank_cell}
 use Rattle.scr_cells.specs.PictureViews.{IsSize}
 use Rattle.std.specs.Prelude.{MatchOption}

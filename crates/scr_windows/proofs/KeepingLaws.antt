@@ -1,14 +1,12 @@
 -- What another size of a window keeps.
-use Rattle.std.proofs.Common.{◌≡◌, ◌≢◌, ℕ, ◌+◌, ◌-◌, ◌<◌, sym, subst, ◌∙◌, ap, refl, length, Option, None, Some, Bool, true, false, cond, Result, Ok, Err}
-use Rattle.std.specs.Prelude.{MatchOption, slice_set}
-use Rattle.std.specs.List.{position}
+use Rattle.std.proofs.Common.{◌≡◌, ◌≢◌, ℕ, ◌<◌, sym, ◌∙◌, ap, refl, length, Option, None, Some, Bool, true, false, cond, Result, Ok, Err}
 use Rattle.std.proofs.lemmas.List.{get_or-set_other}
 use Rattle.scr_windows.specs.declared.surfaces.areas.Area.{Area}
 use Rattle.scr_windows.specs.declared.frames.Frame.{Frame}
 use Rattle.scr_windows.specs.declared.faults.WinFault.{WinFault}
 use Rattle.scr_windows.specs.declared.faults.WinFault.TheVariants.{HasChildren}
-use Rattle.scr_windows.specs.Surfaces.SurfaceViews.{SurfaceView, inside_at, resized_surface}
-use Rattle.scr_windows.specs.DeskViews.{WindowView, DeskView, HasOwn, IsDesk, no_window, surface_at, window_at}
+use Rattle.scr_windows.specs.Surfaces.SurfaceViews.{SurfaceView, inside_at}
+use Rattle.scr_windows.specs.DeskViews.{DeskView, IsDesk, no_window, surface_at, window_at}
 use Rattle.scr_windows.specs.Changes.{index_of, on_window, with_window}
 use Rattle.scr_windows.specs.Calls.Reading.{at}
 use Rattle.scr_windows.specs.Calls.Removing.{has_children}

@@ -1,5 +1,5 @@
 -- A surface of another size.
-use Rattle.std.proofs.Common.{◌≡◌, ◌≢◌, ◌⊎◌, inl, inr, ℕ, ◌+◌, ◌-◌, ◌<◌, ◌≤◌, sym, subst, ◌∙◌, ap, refl, arith, zero, List, length, map, get_or, Option, None, Some, Bool, true, false, cond, leb, ltb, ◌==◌, ◌&&◌}
+use Rattle.std.proofs.Common.{◌≡◌, ◌≢◌, inl, inr, ℕ, ◌+◌, ◌-◌, ◌<◌, ◌≤◌, sym, subst, ◌∙◌, ap, refl, arith, List, length, map, get_or, Option, None, Some, true, false, cond, leb, ltb, ◌==◌, ◌&&◌}
 use Rattle.std.specs.Prelude.{All, MatchOption, slice_set}
 use Rattle.std.specs.List.{range_with_len}
 use Rattle.std.proofs.lemmas.List.{map-set}

@@ -4,7 +4,7 @@ use Rattle.std.specs.Str.{bytes_eq}
 use Rattle.scr_cells.specs.declared.attributes.Attrs.{Attrs}
 use Rattle.scr_windows.specs.declared.faults.Win.{Win}
 use Rattle.screen_sessions.specs.declared.calls.Call.{Call}
-use Rattle.screen_sessions.specs.declared.calls.Call.TheVariants.{NewWindow, NewPad, Derive, Sub, SubPad, Copy, Overlay, Overwrite, Delete, TouchWindow, Untouch, AddByte, AddText, Erase, Clear, Scroll, ChangeBackground, MoveCursor, ScrollOk, AttrSet, ColorSet, SetPairOf, Noutrefresh, PadNoutrefresh, Doupdate}
+use Rattle.screen_sessions.specs.declared.calls.Call.TheVariants.{NewWindow, NewPad, Derive, Sub, SubPad, ResizeWindow, Copy, Overlay, Overwrite, Delete, TouchWindow, Untouch, AddByte, AddText, Erase, Clear, Scroll, ChangeBackground, MoveCursor, ScrollOk, AttrSet, ColorSet, SetPairOf, Noutrefresh, PadNoutrefresh, Doupdate}
 use Rattle.screen_scripts.specs.declared.commands.Command.{Command}
 use Rattle.screen_scripts.specs.declared.commands.Command.TheVariants.{Size, Add, Show, Make, Key, Idle}
 use Rattle.screen_scripts.specs.Fields.{cut, numbers, number_and_text, integer, setting, background, two_colours, hexadecimal_bytes}
@@ -58,7 +58,10 @@ with_two =
     ∷ []
 
 unfoldable pub with_three : Words (ℕ → ℕ → ℕ → Call)
-with_three = (codes "at", λ w row column. MoveCursor (window w) row column) ∷ []
+with_three =
+    (codes "at", λ w row column. MoveCursor (window w) row column)
+    ∷ (codes "resize", λ w rows columns. ResizeWindow (window w) rows columns)
+    ∷ []
 
 unfoldable pub with_four : Words (ℕ → ℕ → ℕ → ℕ → Call)
 with_four = (codes "win", λ rows columns row column. NewWindow rows columns row column) ∷ []

@@ -102,6 +102,8 @@ fn with_three(word: &[u8], first: u32, second: u32, third: u32) -> Option<Call>
 {
     if word == b"at".as_slice() {
         Some(Call::MoveCursor(Win(first), second, third))
+    } else if word == b"resize".as_slice() {
+        Some(Call::ResizeWindow(Win(first), second, third))
     } else {
         None
     }

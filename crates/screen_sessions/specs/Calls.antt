@@ -12,6 +12,7 @@ use Rattle.scr_windows.specs.Calls.Making.{new_window_call, new_pad_call}
 use Rattle.scr_windows.specs.Calls.Moving.{move_window_call, move_derived_call}
 use Rattle.scr_windows.specs.Calls.Reading.{cell_at_answer, cursor_answer, size_answer, origin_answer, line_touched_answer, window_touched_answer}
 use Rattle.scr_windows.specs.Calls.Removing.{delete_call}
+use Rattle.scr_windows.specs.Calls.Resizing.{resize_window_call}
 use Rattle.scr_windows.specs.Calls.Scrolling.{delete_byte_call, insert_delete_lines_call, scroll_call}
 use Rattle.scr_windows.specs.Calls.Settings.{move_cursor_call, set_region_call, scroll_ok_call, clear_ok_call, leave_ok_call, attr_on_call, attr_off_call, attr_set_call, color_set_call, set_background_call, change_background_call}
 use Rattle.scr_windows.specs.Calls.Subwindows.{derive_call, sub_call, sub_pad_call}
@@ -20,7 +21,7 @@ use Rattle.scr_windows.specs.Calls.Touching.{touch_all_call, touch_lines_call}
 use Rattle.screen_sessions.specs.declared.answers.Answer.{Answer}
 use Rattle.screen_sessions.specs.declared.answers.Answer.TheVariants as answers
 use Rattle.screen_sessions.specs.declared.calls.Call.{Call}
-use Rattle.screen_sessions.specs.declared.calls.Call.TheVariants.{NewWindow, NewPad, Derive, Sub, SubPad, Copy, Overlay, Overwrite, Delete, MoveWindow, MoveDerived, TouchWindow, Untouch, TouchLines, SyncUp, SyncDown, AddByte, AddText, InsertByte, LineAcross, LineDown, Border, ClearToEol, ClearToBottom, Erase, Clear, DeleteByte, InsertDeleteLines, Scroll, ChangeBackground, MoveCursor, SetRegion, ScrollOk, ClearOk, LeaveOk, AttrOn, AttrOff, AttrSet, ColorSet, SetBackground, CellAt, Cursor, Size, Origin, LineTouched, WindowTouched}
+use Rattle.screen_sessions.specs.declared.calls.Call.TheVariants.{NewWindow, NewPad, Derive, Sub, SubPad, ResizeWindow, Copy, Overlay, Overwrite, Delete, MoveWindow, MoveDerived, TouchWindow, Untouch, TouchLines, SyncUp, SyncDown, AddByte, AddText, InsertByte, LineAcross, LineDown, Border, ClearToEol, ClearToBottom, Erase, Clear, DeleteByte, InsertDeleteLines, Scroll, ChangeBackground, MoveCursor, SetRegion, ScrollOk, ClearOk, LeaveOk, AttrOn, AttrOff, AttrSet, ColorSet, SetBackground, CellAt, Cursor, Size, Origin, LineTouched, WindowTouched}
 use Rattle.curses.specs.ScreenStates.{ScreenState}
 use Rattle.curses.specs.Forwarding.{OnDesk}
 
@@ -101,13 +102,14 @@ placing desk (SyncUp win) = done (sync_up_call desk win.0)
 placing desk (SyncDown win) = done (sync_down_call desk win.0)
 placing desk call = writing desk call
 
--- All calls on windows. Those listed here allocate: they make a window or copy cells.
+-- All calls on windows. Those listed here allocate: they make a window, give it another size or copy cells.
 abbrev pub window_call : DeskView → Call → DeskView × Answer
 window_call desk (NewWindow rows columns row column) = told (λ win. answers.Made win) (new_window_call desk rows columns row column)
 window_call desk (NewPad rows columns) = told (λ win. answers.Made win) (new_pad_call desk rows columns)
 window_call desk (Derive win rows columns row column) = told (λ win. answers.Made win) (derive_call desk win.0 rows columns row column)
 window_call desk (Sub win rows columns row column) = told (λ win. answers.Made win) (sub_call desk win.0 rows columns row column)
 window_call desk (SubPad win rows columns row column) = told (λ win. answers.Made win) (sub_pad_call desk win.0 rows columns row column)
+window_call desk (ResizeWindow win rows columns) = done (resize_window_call desk win.0 rows columns)
 window_call desk (Copy source target row column top left bottom right overlay) = done (copy_call desk source.0 target.0 row column top left bottom right overlay)
 window_call desk (Overlay source target) = done (overlay_call desk source.0 target.0 true)
 window_call desk (Overwrite source target) = done (overlay_call desk source.0 target.0 false)
@@ -120,6 +122,7 @@ takes_memory (NewPad rows columns) = true
 takes_memory (Derive win rows columns row column) = true
 takes_memory (Sub win rows columns row column) = true
 takes_memory (SubPad win rows columns row column) = true
+takes_memory (ResizeWindow win rows columns) = true
 takes_memory (Copy source target row column top left bottom right overlay) = true
 takes_memory (Overlay source target) = true
 takes_memory (Overwrite source target) = true

@@ -27,6 +27,8 @@ pub enum Call {
     Sub(Win, u32, u32, u32, u32),
     /// [`Screen::sub_pad`](curses::Screen::sub_pad).
     SubPad(Win, u32, u32, u32, u32),
+    /// [`Screen::resize_window`](curses::Screen::resize_window).
+    ResizeWindow(Win, u32, u32),
     /// [`Screen::copy`](curses::Screen::copy).
     Copy(Win, Win, u32, u32, u32, u32, u32, u32, bool),
     /// [`Screen::overlay`](curses::Screen::overlay).
@@ -125,8 +127,8 @@ pub enum Call {
     Doupdate,
 }
 
-// Calls on windows by their values. The first ones allocate memory: those that make a window, and those that copy
-// cells.
+// Calls on windows by their values. The first ones allocate memory: those that make a window or give it
+// another size, and those that copy cells.
 pub(crate) fn make_window_call(alloc: Global, screen: &mut Screen, call: &Call) -> Answer
     ensures made { OnDeskOrRefused screen.old screen.new result call.now }
     ensures told { is_told result ≡ true }
@@ -144,6 +146,9 @@ pub(crate) fn make_window_call(alloc: Global, screen: &mut Screen, call: &Call) 
         )),
         Call::SubPad(win, rows, columns, row, column) => made_answer(screen.sub_pad(
             alloc, *win, *rows, *columns, *row, *column,
+        )),
+        Call::ResizeWindow(win, rows, columns) => done_answer(screen.resize_window(
+            alloc, *win, *rows, *columns,
         )),
         Call::Copy(source, target, row, column, top, left, bottom, right, overlay) => done_answer(
             screen.copy(

@@ -37,7 +37,7 @@ pub fn arguments_of(word: &[u8]) -> Option<&'static [Argument]> {
         "pad" | "color" | "overlay" | "overwrite" => Some(&[Number, Number]),
         "byte" => Some(&[Number, UpTo(255)]),
         "attr" => Some(&[Number, UpTo(127)]),
-        "at" => Some(&[Number, Number, Number]),
+        "at" | "resize" => Some(&[Number, Number, Number]),
         "pair" => Some(&[Number, Colour, Colour]),
         "win" => Some(&[Number; 4]),
         "sub" | "derive" | "subpad" => Some(&[Number; 5]),

@@ -1,5 +1,6 @@
-//! Making windows, and copying from one to another: each is one call of `curses::Screen`.
+//! Making windows, giving them another size, and copying from one to another: each is one call of `curses::Screen`.
 ghost use Rattle.scr_windows.specs.Calls.Copying.{copy_call, overlay_call};
+ghost use Rattle.scr_windows.specs.Calls.Resizing.{resize_window_call};
 ghost use Rattle.scr_virtual.specs.Taking.{take_pad_call};
 ghost use Rattle.huttavel_c.specs.Asking.{Asked, AskedForMemory, on_both, on_windows};
 ghost use Rattle.huttavel_c.specs.Families.{making_call};
@@ -36,6 +37,24 @@ pub extern "C" fn huttavel_held_make(
             3 => made(screen.sub(alloc, Win(window), rows, columns, row, column)),
             _ => made(screen.sub_pad(alloc, Win(window), rows, columns, row, column)),
         }
+    })
+}
+
+/// Gives a window another size, by `Screen::resize_window`. Refused: CLOSED; NO_WINDOW; HAS_CHILDREN; OUT_OF_WINDOW;
+/// OFF_SCREEN; NOT_IN_PARENT; TOO_BIG; NO_MEMORY.
+#[unsafe(no_mangle)]
+pub extern "C" fn huttavel_held_resize_window(
+    alloc: Global,
+    handle: &mut Handle,
+    window: u32,
+    rows: u32,
+    columns: u32,
+) -> u32
+    ensures { AskedForMemory (λ screen. on_windows screen (resize_window_call screen.desk window rows columns)) done_number 4 1 handle.old.held.value handle.new.held.value result }
+{
+    handle.lend(CLOSED, |session| {
+        let screen = &mut session.screen;
+        done(screen.resize_window(alloc, Win(window), rows, columns))
     })
 }
 

@@ -102,13 +102,9 @@ impl Desk {
         let (frame, state) = (window.frame(), window.state());
         let window = window.resized(alloc, area)?;
         let sheet = index_of_sheet(&self.surfaces, frame.surface);
-        let surface = self.surfaces[sheet].surface.resized(
-            alloc,
-            frame.area,
-            rows,
-            columns,
-            state.background,
-        )?;
+        let surface = self.surfaces[sheet]
+            .surface
+            .resized(alloc, frame.area, rows, columns, state.background)?;
         self.surfaces[sheet].surface = surface;
         self.windows[index] = window;
         Ok(())

@@ -1,6 +1,5 @@
-use Rattle.std.proofs.Common.{◌≡◌, ◌<◌, ◌≤◌, ℕ, arith, subst}
-use Rattle.scr_windows.specs.Surfaces.SurfaceViews.{inside_at}
-use Rattle.scr_windows.proofs.ResizingLaws.{all_kept, kept_is_surface, kept_more, rows_kept}
+use Rattle.std.proofs.Common.{arith}
+use Rattle.scr_windows.proofs.ResizingLaws.{all_kept, kept_is_surface, kept_more}
 use Rattle.scr_windows.proofs.surfaces.Surface.resized.Goals as goal
 
 pub loop-row-preserved : goal.loop-row-preserved
