@@ -105,6 +105,7 @@ uint32_t huttavel_held_background(huttavel *handle, uint32_t window, uint8_t byt
                                   bool changes);
 reply huttavel_held_make(huttavel *handle, uint32_t window, uint32_t rows, uint32_t columns, uint32_t row,
                          uint32_t column, uint32_t call);
+uint32_t huttavel_held_resize_window(huttavel *handle, uint32_t window, uint32_t rows, uint32_t columns);
 uint32_t huttavel_held_copy(huttavel *handle, uint32_t source, uint32_t target, uint32_t row, uint32_t column,
                             uint32_t top, uint32_t left, uint32_t bottom, uint32_t right, bool overlay);
 uint32_t huttavel_held_copy_common(huttavel *handle, uint32_t source, uint32_t target, bool overlays);

@@ -101,6 +101,11 @@ uint32_t huttavel_sub_pad(huttavel *handle, uint32_t window, uint32_t rows, uint
     return give(make(handle, window, rows, columns, row, column, SUB_PAD), made, NULL);
 }
 
+uint32_t huttavel_resize_window(huttavel *handle, uint32_t window, uint32_t rows, uint32_t columns)
+{
+    return handle == NULL ? HUTTAVEL_CLOSED : huttavel_held_resize_window(handle, window, rows, columns);
+}
+
 uint32_t huttavel_delete(huttavel *handle, uint32_t window)
 {
     return on_window(handle, window, DELETE);

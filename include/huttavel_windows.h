@@ -36,6 +36,12 @@ uint32_t huttavel_sub(huttavel *handle, uint32_t window, uint32_t rows, uint32_t
 uint32_t huttavel_sub_pad(huttavel *handle, uint32_t window, uint32_t rows, uint32_t columns, uint32_t row,
                           uint32_t column, uint32_t *made);
 
+/* Gives a window, a pad or a subwindow another size; 0 rows or columns reach to the end of the screen or of the parent.
+ * What fits of the cells stays, and the rest is the window's background; a subwindow changes no cell. The scrolling
+ * region becomes the whole window, and every line is touched. Refused: HAS_CHILDREN, OUT_OF_WINDOW for a pad of 0 rows
+ * or columns, OFF_SCREEN, NOT_IN_PARENT, TOO_BIG, NO_MEMORY. wresize() elsewhere. */
+uint32_t huttavel_resize_window(huttavel *handle, uint32_t window, uint32_t rows, uint32_t columns);
+
 /* Deletes a window. Refused: HAS_CHILDREN. delwin(). */
 uint32_t huttavel_delete(huttavel *handle, uint32_t window);
 

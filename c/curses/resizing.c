@@ -321,30 +321,47 @@ static bool has_subwindows(const WINDOW *window)
     return false;
 }
 
-/* Makes a window of the handle at the place of another one, of this size: an error, or its number. */
+/* Makes a window of the handle in the place of one that has cells of its own: a pad, or one on the screen. */
 static uint32_t make_in_place(WINDOW *window, int rows, int columns, bool is_over, uint32_t *made)
 {
     huttavel *handle = handle_of(window);
 
-    if (window->parent)
-        return (is_held_as_pad(window) ? huttavel_sub_pad : huttavel_derive)(
-            handle, window->parent->number, (uint32_t)rows, (uint32_t)columns, (uint32_t)window->parent_row,
-            (uint32_t)window->parent_column, made);
-    if (window->is_pad || is_over)
+    if (is_over)
         return huttavel_new_pad(handle, (uint32_t)rows, (uint32_t)columns, made);
     return huttavel_new_window(handle, (uint32_t)rows, (uint32_t)columns, (uint32_t)screen_row_of(window),
                                (uint32_t)getbegx(window), made);
+}
+
+/* Gives a window that begins or ceases to reach over the edge of the screen another size. */
+static int make_anew(WINDOW *window, int rows, int columns, bool is_over)
+{
+    struct plan plan = {{0, rows}, {0, columns}};
+    huttavel *handle = handle_of(window);
+    huttavel_cell background = {' ', 0, 0};
+    uint32_t made;
+
+    if (make_in_place(window, rows, columns, is_over, &made) != HUTTAVEL_OK)
+        return ERR;
+    huttavel_background(handle, window->number, &background);
+    huttavel_set_background(handle, made, background.byte, background.attrs, background.pair);
+    huttavel_erase(handle, made);
+    if (huttavel_copy(handle, window->number, made, 0, 0, 0, 0, (uint32_t)least(rows, window->rows) - 1,
+                      (uint32_t)least(columns, window->columns) - 1, false) != HUTTAVEL_OK) {
+        huttavel_delete(handle, made);
+        return ERR;
+    }
+    copy_settings(window, handle, made, &plan);
+    huttavel_set_region(handle, made, 0, (uint32_t)rows - 1);
+    huttavel_delete(handle, window->number);
+    window->number = made;
+    return OK;
 }
 
 /* Gives a window without subwindows another size. What fits stays, the rest is background; the region is the whole
    window again. */
 int wresize(WINDOW *window, int rows, int columns)
 {
-    struct plan plan = {{0, rows}, {0, columns}};
-    huttavel *handle = handle_of(window);
-    huttavel_cell background = {' ', 0, 0};
     int row, column;
-    uint32_t made;
     bool is_over;
 
     if (!window || is_shown(window) || window->ripped || rows <= 0 || columns <= 0 || has_subwindows(window))
@@ -354,22 +371,12 @@ int wresize(WINDOW *window, int rows, int columns)
     is_over = window->parent ? window->is_over
                              : !window->is_pad && (rows > window->screen->rows - row ||
                                                    columns > window->screen->columns - column);
-    if (make_in_place(window, rows, columns, is_over, &made) != HUTTAVEL_OK)
-        return ERR;
-    if (!window->parent) {
-        huttavel_background(handle, window->number, &background);
-        huttavel_set_background(handle, made, background.byte, background.attrs, background.pair);
-        huttavel_erase(handle, made);
-        if (huttavel_copy(handle, window->number, made, 0, 0, 0, 0, (uint32_t)least(rows, window->rows) - 1,
-                          (uint32_t)least(columns, window->columns) - 1, false) != HUTTAVEL_OK) {
-            huttavel_delete(handle, made);
+    if (is_over != window->is_over) {
+        if (make_anew(window, rows, columns, is_over) != OK)
             return ERR;
-        }
-    }
-    copy_settings(window, handle, made, &plan);
-    huttavel_set_region(handle, made, 0, (uint32_t)rows - 1);
-    huttavel_delete(handle, window->number);
-    window->number = made;
+    } else if (huttavel_resize_window(handle_of(window), window->number, (uint32_t)rows, (uint32_t)columns) !=
+               HUTTAVEL_OK)
+        return ERR;
     window->is_over = is_over;
     window->row = row;
     window->column = column;

@@ -281,6 +281,58 @@ static void making(huttavel *handle)
     IS(HUTTAVEL_NO_WINDOW, huttavel_parent(handle, 77, &parent));
 }
 
+/* What a window has in a row and a column. */
+static bool has(huttavel *handle, uint32_t window, uint32_t row, uint32_t column, uint8_t byte, uint8_t attrs)
+{
+    huttavel_cell cell = {0, 0, 0};
+
+    return huttavel_cell_at(handle, window, row, column, &cell) == HUTTAVEL_OK && cell.byte == byte &&
+           cell.attrs == attrs;
+}
+
+static void resizing(huttavel *handle)
+{
+    uint32_t window = 9, sub = 9, pad = 9, row = 9, column = 9, top = 9, bottom = 9;
+    bool on = false;
+
+    IS(HUTTAVEL_OK, huttavel_new_window(handle, 3, 6, 1, 2, &window));
+    IS(HUTTAVEL_OK, huttavel_add_text(handle, window, (const uint8_t *)"abcdefghi", 9, NULL));
+    IS(HUTTAVEL_OK, huttavel_set_background(handle, window, '.', HUTTAVEL_DIM, 0));
+    IS(HUTTAVEL_OK, huttavel_set_region(handle, window, 1, 1));
+    IS(HUTTAVEL_OK, huttavel_untouch(handle, window));
+    /* Less: the cursor, after the i, goes to the nearest place inside. */
+    IS(HUTTAVEL_OK, huttavel_resize_window(handle, window, 2, 2));
+    IS(HUTTAVEL_OK, huttavel_size(handle, window, &row, &column));
+    CHECK(row == 2 && column == 2);
+    IS(HUTTAVEL_OK, huttavel_cursor(handle, window, &row, &column));
+    CHECK(row == 1 && column == 1);
+    IS(HUTTAVEL_OK, huttavel_region(handle, window, &top, &bottom));
+    CHECK(top == 0 && bottom == 1);
+    IS(HUTTAVEL_OK, huttavel_line_touched(handle, window, 1, &on));
+    CHECK(on && has(handle, window, 0, 1, 'b', 0) && has(handle, window, 1, 1, 'h', 0));
+    /* More, to the end of the screen: what fits stays, the rest is the background. */
+    IS(HUTTAVEL_OK, huttavel_resize_window(handle, window, 3, 4));
+    CHECK(has(handle, window, 1, 0, 'g', 0) && has(handle, window, 1, 2, '.', HUTTAVEL_DIM));
+    CHECK(has(handle, window, 2, 0, '.', HUTTAVEL_DIM));
+    IS(HUTTAVEL_OFF_SCREEN, huttavel_resize_window(handle, window, 999, 2));
+    /* A subwindow changes no cell, and stays in its parent. */
+    IS(HUTTAVEL_OK, huttavel_derive(handle, window, 1, 1, 1, 1, &sub));
+    IS(HUTTAVEL_HAS_CHILDREN, huttavel_resize_window(handle, window, 1, 1));
+    IS(HUTTAVEL_NOT_IN_PARENT, huttavel_resize_window(handle, sub, 3, 1));
+    IS(HUTTAVEL_OK, huttavel_resize_window(handle, sub, 0, 0));
+    IS(HUTTAVEL_OK, huttavel_size(handle, sub, &row, &column));
+    CHECK(row == 2 && column == 3 && has(handle, window, 1, 1, 'h', 0) && has(handle, sub, 0, 1, '.', HUTTAVEL_DIM));
+    IS(HUTTAVEL_OK, huttavel_new_pad(handle, 2, 2, &pad));
+    IS(HUTTAVEL_OUT_OF_WINDOW, huttavel_resize_window(handle, pad, 0, 2));
+    IS(HUTTAVEL_TOO_BIG, huttavel_resize_window(handle, pad, 1001, 1000));
+    IS(HUTTAVEL_OK, huttavel_resize_window(handle, pad, 1000, 1000));
+    IS(HUTTAVEL_NO_WINDOW, huttavel_resize_window(handle, 77, 1, 1));
+    IS(HUTTAVEL_CLOSED, huttavel_resize_window(NULL, 0, 1, 1));
+    IS(HUTTAVEL_OK, huttavel_delete(handle, sub));
+    IS(HUTTAVEL_OK, huttavel_delete(handle, window));
+    IS(HUTTAVEL_OK, huttavel_delete(handle, pad));
+}
+
 static void writing(huttavel *handle)
 {
     huttavel_cell cell = {0, 0, 0};
@@ -490,6 +542,7 @@ int main(void)
     IS(HUTTAVEL_OK, huttavel_open_bundled(&other, 3, 4));
     described(&other);
     making(&handle);
+    resizing(&handle);
     writing(&handle);
     touching(&handle);
     sending(&handle);

@@ -74,7 +74,7 @@ static uint32_t make(huttavel *of)
 {
     uint32_t made, *result = any(4) == 0 ? NULL : &made;
 
-    switch (any(8)) {
+    switch (any(9)) {
     case 0: return huttavel_new_window(of, any(8), any(20), any(8), any(20), result);
     case 1: return huttavel_new_pad(of, number(), number(), result);
     case 2: return huttavel_derive(of, window(), any(5), any(9), any(5), any(9), result);
@@ -82,6 +82,7 @@ static uint32_t make(huttavel *of)
     case 4: return huttavel_sub_pad(of, window(), any(5), any(9), any(5), any(9), result);
     case 5: return huttavel_delete(of, window());
     case 6: return huttavel_move_window(of, window(), number(), number());
+    case 7: return huttavel_resize_window(of, window(), any(9), any(20));
     default: return huttavel_move_derived(of, window(), number(), number());
     }
 }
