@@ -5,6 +5,7 @@
 enum {
     BELL = 1,
     CHANGE_REGION = 3,
+    CURSOR_ADDRESS = 10,
     CURSOR_INVISIBLE = 13,
     CURSOR_NORMAL = 16,
     CURSOR_VISIBLE = 20,

@@ -199,14 +199,19 @@ int huttavel_curses_set_cursor(int row, int column)
     return current ? set_cursor(current, row, column) : ERR;
 }
 
+static int move_after_end(SCREEN *screen, int row, int column);
+
 /* Moves the terminal's cursor now. The place where it was is known, so the first two numbers are not looked at; what
-   was copied and is not sent yet goes first. ERR after endwin(), which has moved it to the last line. */
+   was copied and is not sent yet goes first, but not after endwin(). */
 int mvcur(int old_row, int old_column, int row, int column)
 {
-    WINDOW *window = current && !current->has_ended ? whole_window(current) : NULL;
+    WINDOW *window;
 
     (void)old_row;
     (void)old_column;
+    if (current && current->has_ended)
+        return move_after_end(current, row, column);
+    window = current ? whole_window(current) : NULL;
     if (!window || wmove(window, row, column) == ERR || untouchwin(window) == ERR)
         return ERR;
     return wrefresh(window);

@@ -114,3 +114,16 @@ int putp(const char *text)
 {
     return tputs(text, 1, putchar);
 }
+
+/* Moves the cursor of a terminal that endwin() gave back, by the entry's `cup` alone: nothing else is sent, and the
+   modes of the line stay. ERR outside of the screen, and where the entry has no such string. */
+static int move_after_end(SCREEN *screen, int row, int column)
+{
+    int32_t numbers[9] = {0};
+
+    if (!is_in(row, 0, screen->shown->rows - 1) || !is_in(column, 0, screen->shown->columns - 1))
+        return ERR;
+    numbers[0] = row;
+    numbers[1] = column;
+    return write_string(screen, given_text(string_of(screen, CURSOR_ADDRESS), numbers));
+}

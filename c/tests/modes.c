@@ -147,8 +147,9 @@ static void ends(const struct termios *shell)
     CHECK(strstr(all_sent(), "\033[?1l\033>") && strstr(sent, "\033[?1049l"));
     now = modes();
     CHECK(now.c_lflag == shell->c_lflag && now.c_iflag == shell->c_iflag && now.c_oflag == shell->c_oflag);
-    /* The terminal is the shell's until the next update. */
-    CHECK(mvcur(0, 0, 5, 5) == ERR && isendwin() && !*all_sent());
+    /* The terminal is the shell's until the next update: a motion is sent, and nothing else. */
+    CHECK(mvcur(0, 0, 5, 6) == OK && isendwin() && !strcmp(all_sent(), "\033[6;7H"));
+    CHECK(mvcur(0, 0, 24, 0) == ERR && mvcur(0, 0, 0, 80) == ERR && mvcur(0, 0, -1, 0) == ERR && !*all_sent());
     now = modes();
     CHECK(now.c_lflag == shell->c_lflag);
     CHECK(endwin() == ERR);
