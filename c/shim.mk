@@ -2,7 +2,7 @@
 # also works by itself: make -f shim.mk.
 #   curses                   makes out/libhuttavel_curses.a
 #   check-headers            compiles each header by itself, as C99 and as C++, with every warning an error
-#   install-curses           copies archive, headers and files for pkg-config below PREFIX (and DESTDIR)
+#   install-curses           copies archive, headers, manuals and files for pkg-config below PREFIX (and DESTDIR)
 #   uninstall-curses         removes them
 # A program that wants <curses.h> of here is compiled with -I PREFIX/include/huttavel, and linked with
 # -lhuttavel_curses -lhuttavel: pkg-config --cflags --libs huttavel_curses. One that asks for -lncurses, -lpanel and so
@@ -25,6 +25,9 @@ SHIM_OBJECTS := $(addprefix $(SHIM_OUT)/,curses.o panel.o)
 # Where things go, DESTDIR and all.
 TO_HEADERS = $(DESTDIR)$(PREFIX)/include/huttavel
 TO_LIBRARIES = $(DESTDIR)$(PREFIX)/lib
+# A folder of its own, so that those of another curses stay: man -M PREFIX/share/huttavel/man curses.
+TO_MANUALS = $(DESTDIR)$(PREFIX)/share/huttavel/man/man3
+SHIM_MANUALS := $(addprefix $(SHIM)../man/,curses.3 term.3)
 # Other libraries' names for ours: linker scripts, in a folder below that of the archives that they name. Their files
 # for pkg-config tell a version of ncurses.
 OTHER_NAMES := ncurses ncursesw curses tinfo panel panelw termcap
@@ -60,8 +63,9 @@ check-headers:
 	done
 
 install-curses: curses
-	install -d $(TO_HEADERS) $(TO_LIBRARIES)/pkgconfig $(TO_OTHERS)/pkgconfig
+	install -d $(TO_HEADERS) $(TO_LIBRARIES)/pkgconfig $(TO_OTHERS)/pkgconfig $(TO_MANUALS)
 	install -m 644 $(SHIM_HEADERS) $(SHIM_HEADER_PARTS) $(TO_HEADERS)
+	install -m 644 $(SHIM_MANUALS) $(TO_MANUALS)
 	install -m 644 $(SHIM_OUT)/libhuttavel_curses.a $(TO_LIBRARIES)
 	$(call PACKAGE,huttavel_curses,lib,$(HUTTAVEL_VERSION),-lhuttavel_curses -lhuttavel) \
 	    > $(TO_LIBRARIES)/pkgconfig/huttavel_curses.pc
@@ -76,4 +80,5 @@ uninstall-curses:
 	rm -f $(addprefix $(TO_HEADERS)/,$(notdir $(SHIM_HEADERS) $(SHIM_HEADER_PARTS)))
 	rm -f $(TO_LIBRARIES)/libhuttavel_curses.a $(TO_LIBRARIES)/pkgconfig/huttavel_curses.pc
 	rm -f $(OTHER_NAMES:%=$(TO_OTHERS)/lib%.a) $(OTHER_PACKAGES:%=$(TO_OTHERS)/pkgconfig/%.pc)
-	-rmdir $(TO_HEADERS) $(TO_OTHERS)/pkgconfig $(TO_OTHERS)
+	rm -f $(addprefix $(TO_MANUALS)/,$(notdir $(SHIM_MANUALS)))
+	-rmdir $(TO_HEADERS) $(TO_OTHERS)/pkgconfig $(TO_OTHERS) $(TO_MANUALS)
