@@ -34,6 +34,7 @@
 #include "curses/colours.c"
 #include "curses/refreshing.c"
 #include "curses/adding.c"
+#include "curses/inserting.c"
 #include "curses/erasing.c"
 #include "curses/reading.c"
 #include "curses/cells.c"

@@ -23,31 +23,74 @@ int wmove(WINDOW *window, int row, int column)
             huttavel_color_set(handle_of(window), (window)->number, (window)->pair);                         \
     } while (0)
 
+/* Whether the cursor, which found no next line, is in a last line below the lines that scroll: then it goes to the
+   beginning of that line. */
+static bool begins_again(WINDOW *window)
+{
+    int row = getcury(window);
+    uint32_t top = 0, bottom = 0;
+
+    huttavel_region(handle_of(window), window->number, &top, &bottom);
+    if (row == (int)bottom)
+        return false;
+    huttavel_move_cursor(handle_of(window), window->number, (uint32_t)row, 0);
+    return true;
+}
+
 /* Adds a character, `count` times. */
 static int add_character(WINDOW *window, chtype character, int count)
 {
     bool stayed = false;
     uint32_t fault = HUTTAVEL_OK;
 
-    for (; count > 0 && !stayed && fault == HUTTAVEL_OK; count--)
+    for (; count > 0 && !stayed && fault == HUTTAVEL_OK; count--) {
         WITH_PAIR(window, character, fault,
                   huttavel_add_byte(handle_of(window), window->number, byte_of(character), attrs_of(character), &stayed));
+        stayed = stayed && !begins_again(window);
+    }
     return stayed ? ERR : answer(fault);
+}
+
+/* Whether the cursor is in the last line that scrolls, of a window that may not scroll. */
+static bool is_at_end(const WINDOW *window)
+{
+    uint32_t top = 0, bottom = 0;
+    bool is_on = false;
+
+    huttavel_region(handle_of(window), window->number, &top, &bottom);
+    huttavel_is_scroll_ok(handle_of(window), window->number, &is_on);
+    return !is_on && getcury(window) == (int)bottom;
+}
+
+/* Adds a tab: blanks with the window's attributes, which the library's tab has not. One that leaves its line is a line
+   feed if there is a next line, and blanks to the end if there is none. */
+static int add_tab(WINDOW *window, chtype character)
+{
+    int count = 8 - getcurx(window) % 8;
+
+    if (getcurx(window) + count >= window->columns && !is_at_end(window))
+        return add_character(window, character, 1);
+    return add_character(window, (character & A_ATTRIBUTES) | ' ', count);
+}
+
+/* Whether a byte is written as `^` and a second character, which is the byte with one bit turned. */
+static bool is_shown_as_two(uint8_t byte)
+{
+    return byte == 127 || (byte < ' ' && byte != '\b' && byte != '\t' && byte != '\n' && byte != '\r');
 }
 
 /* Adds a character, in a window. */
 static int add_one(WINDOW *window, chtype character)
 {
-    int count;
-
     character = drawn_in(window, character);
-    if (byte_of(character) != '\t')
-        return add_character(window, character, 1);
-    /* A tab that ends in its line is blanks with the window's attributes; those of the library's tab have none. */
-    count = 8 - getcurx(window) % 8;
-    if (getcurx(window) + count >= window->columns)
-        return add_character(window, character, 1);
-    return add_character(window, (character & A_ATTRIBUTES) | ' ', count);
+    if (byte_of(character) == '\t')
+        return add_tab(window, character);
+    if (is_shown_as_two(byte_of(character))) {
+        if (add_character(window, (character & A_ATTRIBUTES) | '^', 1) == ERR)
+            return ERR;
+        character ^= 64;
+    }
+    return add_character(window, character, 1);
 }
 
 int waddch(WINDOW *window, const chtype character)
@@ -110,39 +153,6 @@ int waddnstr(WINDOW *window, const char *text, int most)
 int waddstr(WINDOW *window, const char *text)
 {
     return waddnstr(window, text, -1);
-}
-
-/* Inserts a character in a window. */
-static int insert_one(WINDOW *window, chtype character)
-{
-    uint32_t fault;
-
-    character = drawn_in(window, character);
-    WITH_PAIR(window, character, fault,
-              huttavel_insert_byte(handle_of(window), window->number, byte_of(character), attrs_of(character)));
-    return answer(fault);
-}
-
-int winsch(WINDOW *window, chtype character)
-{
-    return window ? changed(window, insert_one(window, character)) : ERR;
-}
-
-int winsnstr(WINDOW *window, const char *text, int most)
-{
-    size_t length;
-    int done = OK;
-
-    if (!window || !text)
-        return ERR;
-    for (length = length_of(text, most); length > 0 && done == OK; length--)
-        done = insert_one(window, (unsigned char)text[length - 1]);
-    return changed(window, done);
-}
-
-int winsstr(WINDOW *window, const char *text)
-{
-    return winsnstr(window, text, -1);
 }
 
 /* Draws a line of a character, with its attributes and pair besides those of the window. */

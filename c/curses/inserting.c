@@ -1,0 +1,111 @@
+/* Calls that insert characters: the rest of the line moves to the right, and its end is lost. Control characters do
+   what they do where they are added (X/Open Curses Issue 7, insch()), but no line is begun where one ends. */
+
+/* Where the next character goes. A column behind the last one stays there: what is inserted is lost. */
+struct insertion {
+    int row, column;
+};
+
+/* Inserts a character that a cell can hold. */
+static int insert_cell(WINDOW *window, struct insertion *at, chtype character)
+{
+    uint32_t fault;
+
+    if (at->column == window->columns)
+        return OK;
+    huttavel_move_cursor(handle_of(window), window->number, (uint32_t)at->row, (uint32_t)at->column);
+    WITH_PAIR(window, character, fault,
+              huttavel_insert_byte(handle_of(window), window->number, byte_of(character), attrs_of(character)));
+    at->column++;
+    return answer(fault);
+}
+
+/* Inserts blanks up to the next stop. */
+static int insert_tab(WINDOW *window, struct insertion *at, attr_t attrs)
+{
+    int count = 8 - at->column % 8, done = OK;
+
+    for (; count > 0 && done == OK; count--)
+        done = insert_cell(window, at, attrs | ' ');
+    return done;
+}
+
+/* Erases the rest of the line and goes to the next one; stays where there is none that the window may scroll to. */
+static int insert_line_feed(WINDOW *window, struct insertion *at)
+{
+    uint32_t top = 0, bottom = 0;
+
+    if (at->column < window->columns) {
+        huttavel_move_cursor(handle_of(window), window->number, (uint32_t)at->row, (uint32_t)at->column);
+        huttavel_clear_to_eol(handle_of(window), window->number);
+    }
+    huttavel_region(handle_of(window), window->number, &top, &bottom);
+    if (at->row == (int)bottom) {
+        if (huttavel_scroll(handle_of(window), window->number, 1) != HUTTAVEL_OK)
+            return OK;
+    } else if (at->row < window->rows - 1) {
+        at->row++;
+    }
+    at->column = 0;
+    return OK;
+}
+
+/* Inserts a character, or does what it says. */
+static int insert_one(WINDOW *window, struct insertion *at, chtype character)
+{
+    attr_t attrs = character & A_ATTRIBUTES;
+
+    switch (byte_of(character)) {
+    case '\t': return insert_tab(window, at, attrs);
+    case '\n': return insert_line_feed(window, at);
+    case '\r': at->column = 0; return OK;
+    case '\b': at->column -= at->column > 0; return OK;
+    }
+    if (!is_shown_as_two(byte_of(character)))
+        return insert_cell(window, at, character);
+    return insert_cell(window, at, attrs | '^') == ERR ? ERR : insert_cell(window, at, character ^ 64);
+}
+
+/* Where an insertion begins, which is where the cursor is again when it ends. */
+static struct insertion at_cursor(const WINDOW *window)
+{
+    struct insertion at = {getcury(window), getcurx(window)};
+
+    return at;
+}
+
+static int end_insertion(WINDOW *window, const struct insertion *begun, int done)
+{
+    huttavel_move_cursor(handle_of(window), window->number, (uint32_t)begun->row, (uint32_t)begun->column);
+    return changed(window, done);
+}
+
+int winsch(WINDOW *window, chtype character)
+{
+    const struct insertion begun = at_cursor(window);
+    struct insertion at = begun;
+
+    if (!window || is_shown(window))
+        return ERR;
+    return end_insertion(window, &begun, insert_one(window, &at, drawn_in(window, character)));
+}
+
+/* Inserts a text up to the first byte that is refused; all of it where `most` is below 1. */
+int winsnstr(WINDOW *window, const char *text, int most)
+{
+    const struct insertion begun = at_cursor(window);
+    struct insertion at = begun;
+    size_t length;
+    int done = OK;
+
+    if (!window || is_shown(window) || !text)
+        return ERR;
+    for (length = length_of(text, most < 1 ? -1 : most); length > 0 && done == OK; length--)
+        done = insert_one(window, &at, drawn_in(window, (unsigned char)*text++));
+    return end_insertion(window, &begun, done);
+}
+
+int winsstr(WINDOW *window, const char *text)
+{
+    return winsnstr(window, text, -1);
+}
