@@ -15,6 +15,7 @@ HUTTAVEL_INCLUDE ?= $(SHIM)../include
 HUTTAVEL_VERSION = $(shell sed -n 's/^.define HUTTAVEL_VERSION "\(.*\)"$$/\1/p' $(HUTTAVEL_INCLUDE)/huttavel.h)
 CFLAGS ?= -O2
 CXX ?= c++
+OBJCOPY ?= objcopy
 SHIM_FLAGS := -std=c99 -Wall -Wextra -pedantic -I $(SHIM) -I $(HUTTAVEL_INCLUDE)
 SHIM_HEADERS := $(addprefix $(SHIM),curses.h ncurses.h panel.h term.h termcap.h unctrl.h)
 # Parts of curses.h and of term.h.
@@ -46,10 +47,13 @@ $(SHIM_OUT)/libhuttavel_curses.a: $(SHIM_OBJECTS)
 	rm -f $@
 	$(AR) rcs $@ $(SHIM_OBJECTS)
 
-# -fPIC, so that shared libraries can have it in them, as modules of interpreters do.
+# -fPIC, so that shared libraries can have it in them, as modules of interpreters do. Names are weak, so that a program
+# that wants a few of the calls may have functions of its own by the names of others; the calls here that call each
+# other never mean those.
 $(SHIM_OUT)/%.o: $(SHIM)%.c $(SHIM_PARTS) $(SHIM_HEADERS)
 	mkdir -p $(SHIM_OUT)
-	$(CC) $(SHIM_FLAGS) $(CFLAGS) -fPIC -c $< -o $@
+	$(CC) $(SHIM_FLAGS) $(CFLAGS) -fPIC -fno-semantic-interposition -c $< -o $@
+	$(OBJCOPY) --weaken $@
 
 # Each header alone, and two together in either order; but term.h is last, since its names are macros.
 check-headers:
