@@ -5,6 +5,7 @@ import re
 import shutil
 import subprocess
 
+HERE = os.path.dirname(os.path.abspath(__file__))
 SUITES = ("stable", "oldstable")
 # Headers of ncurses: where ours has none of that name, a program that asks for it has to fail, as it does where ncurses
 # is not installed.
@@ -55,7 +56,10 @@ class Sources:
         return [each for each in found if not each.endswith(".asc")]
 
     def archive(self, package):
-        """The upstream archive of a package, fetched if it is not there; None where it is not to be had."""
+        """The upstream archive of a package, fetched if it is not there; None where it is not to be had. A program of
+        our own is its file here."""
+        if package.endswith(".c"):
+            return os.path.join(HERE, package)
         for suite in SUITES:
             if self.archives(package):
                 break
@@ -106,6 +110,16 @@ def missing_names(said, also):
     return found
 
 
+def unpack(archive, folder):
+    """A new folder with a source in a folder of its own."""
+    os.makedirs(folder)
+    if archive.endswith(".c"):
+        os.mkdir(os.path.join(folder, "source"))
+        shutil.copy2(archive, os.path.join(folder, "source"))
+    else:
+        subprocess.run(["tar", "xf", archive, "-C", folder], check=True)
+
+
 class Build:
     """A program that is built in a folder of its own, with what was said."""
 
@@ -115,8 +129,7 @@ class Build:
         self.log = os.path.join(work, "build", kind, name + ".log")
         self.given = environment(kind, prefix, os.path.join(work, "hidden"))
         if not os.path.exists(self.folder):
-            os.makedirs(self.folder)
-            subprocess.run(["tar", "xf", archive, "-C", self.folder], check=True)
+            unpack(archive, self.folder)
         inner = section.get("folder", "*")
         self.place = [each for each in glob.glob(os.path.join(self.folder, inner)) if os.path.isdir(each)][0]
         self.binary = os.path.join(self.place, section["binary"])
