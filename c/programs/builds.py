@@ -85,7 +85,8 @@ def hide_foreign(folder, prefix):
 def environment(kind, prefix, hidden):
     """What a build over ours or over ncurses is given."""
     given = {name: value for name, value in os.environ.items() if name not in ("CPPFLAGS", "LDFLAGS", "CFLAGS")}
-    given.update(CPPFLAGS="", LDFLAGS="", LC_ALL="C")
+    # The time that a program shows as its own is the same for both.
+    given.update(CPPFLAGS="", LDFLAGS="", LC_ALL="C", SOURCE_DATE_EPOCH="1000000000")
     if kind == "ours":
         given.update(CPPFLAGS="-I%s/include/huttavel -I%s" % (prefix, hidden),
                      LDFLAGS="-L%s/lib/huttavel" % prefix,

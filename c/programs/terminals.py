@@ -53,7 +53,7 @@ class Side:
         self.processor, self.process, self.at = 0, 0, {}
         given = {"TERM": entry, "TERMINFO": os.path.join(work, "terminfo"), "HOME": os.path.join(self.folder, "home"),
                  "LC_ALL": "C", "LANG": "C", "TZ": "UTC", "ESCDELAY": "100", "SHELL": "/bin/sh", "USER": "someone",
-                 "SOURCE": build.place, "PATH": os.environ["PATH"]}
+                 "SOURCE": build.place, "HERE": os.path.dirname(os.path.abspath(__file__)), "PATH": os.environ["PATH"]}
         if section.get("prepare"):
             subprocess.run(["sh", "-c", section["prepare"]], cwd=self.folder, env=given, check=True)
         if self.is_clocked:
@@ -124,9 +124,9 @@ class Side:
         """Does what a step says."""
         kind, value = step
         if kind == "text":
-            tmux("send-keys", "-t", self.pane, "-l", value)
+            tmux("send-keys", "-t", self.pane, "-l", "--", value)
         elif kind == "key":
-            tmux("send-keys", "-t", self.pane, value)
+            tmux("send-keys", "-t", self.pane, "--", value)
         elif kind == "size":
             tmux("resize-window", "-t", self.pane, "-x", value[0], "-y", value[1])
         elif kind == "release" and self.is_clocked:
