@@ -215,6 +215,8 @@
 #define NCURSES_BUTTON_CLICKED 4u
 #define NCURSES_DOUBLE_CLICKED 8u
 #define NCURSES_TRIPLE_CLICKED 16u
+/* None, but a name that programs ask for. */
+#define NCURSES_RESERVED_EVENT 32u
 #define NCURSES_MOUSE_MASK(button, event) ((mmask_t)(event) << ((button) - 1) * 5)
 #define BUTTON1_RELEASED NCURSES_MOUSE_MASK(1, NCURSES_BUTTON_RELEASED)
 #define BUTTON1_PRESSED NCURSES_MOUSE_MASK(1, NCURSES_BUTTON_PRESSED)

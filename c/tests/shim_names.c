@@ -374,6 +374,7 @@ static void using_the_mouse(void)
     mmask_t before = 1;
 
     CHECK(has_mouse());
+    CHECK(NCURSES_RESERVED_EVENT == 32u);
     IS(ERR, getmouse(&event));
     IS(BUTTON1_PRESSED, mousemask(BUTTON1_PRESSED | BUTTON1_DOUBLE_CLICKED, &before));
     IS(0u, before);
