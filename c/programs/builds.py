@@ -12,6 +12,7 @@ SUITES = ("stable", "oldstable")
 FOREIGN = ("term.h", "termcap.h", "term_entry.h", "tic.h", "form.h", "menu.h", "eti.h", "ncurses_dll.h", "nc_tparm.h",
            "panel.h", "unctrl.h", "ncurses.h", "curses.h")
 FOREIGN_FOLDERS = ("ncursesw", "ncurses")
+SANITIZERS = "-fsanitize=address,undefined "
 
 
 def mirror():
@@ -82,14 +83,14 @@ def hide_foreign(folder, prefix):
                     file.write("#error %s of ncurses\n" % name)
 
 
-def environment(kind, prefix, hidden):
+def environment(kind, prefix, hidden, is_sanitized):
     """What a build over ours or over ncurses is given."""
     given = {name: value for name, value in os.environ.items() if name not in ("CPPFLAGS", "LDFLAGS", "CFLAGS")}
     # The time that a program shows as its own is the same for both.
     given.update(CPPFLAGS="", LDFLAGS="", LC_ALL="C", SOURCE_DATE_EPOCH="1000000000")
     if kind == "ours":
         given.update(CPPFLAGS="-I%s/include/huttavel -I%s" % (prefix, hidden),
-                     LDFLAGS="-L%s/lib/huttavel" % prefix,
+                     LDFLAGS="%s-L%s/lib/huttavel" % (SANITIZERS if is_sanitized else "", prefix),
                      PKG_CONFIG_PATH="%s/lib/huttavel/pkgconfig" % prefix)
     return given
 
@@ -124,11 +125,11 @@ def unpack(archive, folder):
 class Build:
     """A program that is built in a folder of its own, with what was said."""
 
-    def __init__(self, work, name, section, kind, prefix, archive):
+    def __init__(self, work, name, section, kind, prefix, archive, is_sanitized=False):
         name = section.get("set", name)
         self.kind, self.folder = kind, os.path.join(work, "build", kind, name)
         self.log = os.path.join(work, "build", kind, name + ".log")
-        self.given = environment(kind, prefix, os.path.join(work, "hidden"))
+        self.given = environment(kind, prefix, os.path.join(work, "hidden"), is_sanitized)
         if not os.path.exists(self.folder):
             unpack(archive, self.folder)
         inner = section.get("folder", "*")

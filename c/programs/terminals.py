@@ -1,4 +1,5 @@
 """Runs a build of a program on a terminal of tmux, step by step. Part of `try`."""
+import glob
 import os
 import re
 import shlex
@@ -41,7 +42,7 @@ def steps_of(keys):
 class Side:
     """One build of a program on a terminal of its own, in a folder of its own."""
 
-    def __init__(self, work, entry, name, number, section, build):
+    def __init__(self, work, entry, name, number, section, build, guard=None):
         self.pane, self.is_clocked = "%s-%d" % (name, number), section.getboolean("clock", False)
         self.has_cursor = section.getboolean("cursor", True)
         self.size = section.get("size", "80x24").split("x")
@@ -67,10 +68,31 @@ class Side:
         os.makedirs(self.file("programs"), exist_ok=True)
         shutil.copy2(build.binary, self.file("programs"))
         program = os.path.basename(build.binary)
-        self.start(program, section.get("under", "") + " " + program, section.get("arguments", ""), given)
+        under, environment = self.guarded(guard)
+        given.update(environment)
+        self.start(program, section.get("under", "") + under + " " + program, section.get("arguments", ""), given)
 
     def file(self, kind):
         return self.folder + "." + kind
+
+    def guarded(self, guard):
+        """What the program runs under, and its environment, so that findings are written into files."""
+        for each in glob.glob(self.file("found") + "*"):
+            os.remove(each)
+        if guard == "valgrind":
+            return " valgrind -q --log-file=%s" % self.file("found"), {}
+        if guard == "sanitizers":
+            return "", {"ASAN_OPTIONS": "detect_leaks=0:verify_asan_link_order=0:log_path=" + self.file("found"),
+                        "UBSAN_OPTIONS": "print_stacktrace=1:log_path=" + self.file("found")}
+        return "", {}
+
+    def found(self):
+        """What a guard found."""
+        texts = []
+        for each in sorted(glob.glob(self.file("found") + "*")):
+            with open(each, errors="replace") as file:
+                texts.append(file.read())
+        return "".join(texts).strip()
 
     def make_fifos(self):
         for fifo in ("arrived", "released"):
