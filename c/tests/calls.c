@@ -281,8 +281,8 @@ static void making(huttavel *handle)
     IS(HUTTAVEL_NO_WINDOW, huttavel_parent(handle, 77, &parent));
 }
 
-/* What a window has in a row and a column. */
-static bool has(huttavel *handle, uint32_t window, uint32_t row, uint32_t column, uint8_t byte, uint8_t attrs)
+/* Whether a window has this in a row and a column. */
+static bool shows(huttavel *handle, uint32_t window, uint32_t row, uint32_t column, uint8_t byte, uint8_t attrs)
 {
     huttavel_cell cell = {0, 0, 0};
 
@@ -309,11 +309,11 @@ static void resizing(huttavel *handle)
     IS(HUTTAVEL_OK, huttavel_region(handle, window, &top, &bottom));
     CHECK(top == 0 && bottom == 1);
     IS(HUTTAVEL_OK, huttavel_line_touched(handle, window, 1, &on));
-    CHECK(on && has(handle, window, 0, 1, 'b', 0) && has(handle, window, 1, 1, 'h', 0));
+    CHECK(on && shows(handle, window, 0, 1, 'b', 0) && shows(handle, window, 1, 1, 'h', 0));
     /* More, to the end of the screen: what fits stays, the rest is the background. */
     IS(HUTTAVEL_OK, huttavel_resize_window(handle, window, 3, 4));
-    CHECK(has(handle, window, 1, 0, 'g', 0) && has(handle, window, 1, 2, '.', HUTTAVEL_DIM));
-    CHECK(has(handle, window, 2, 0, '.', HUTTAVEL_DIM));
+    CHECK(shows(handle, window, 1, 0, 'g', 0) && shows(handle, window, 1, 2, '.', HUTTAVEL_DIM));
+    CHECK(shows(handle, window, 2, 0, '.', HUTTAVEL_DIM));
     IS(HUTTAVEL_OFF_SCREEN, huttavel_resize_window(handle, window, 999, 2));
     /* A subwindow changes no cell, and stays in its parent. */
     IS(HUTTAVEL_OK, huttavel_derive(handle, window, 1, 1, 1, 1, &sub));
@@ -321,7 +321,7 @@ static void resizing(huttavel *handle)
     IS(HUTTAVEL_NOT_IN_PARENT, huttavel_resize_window(handle, sub, 3, 1));
     IS(HUTTAVEL_OK, huttavel_resize_window(handle, sub, 0, 0));
     IS(HUTTAVEL_OK, huttavel_size(handle, sub, &row, &column));
-    CHECK(row == 2 && column == 3 && has(handle, window, 1, 1, 'h', 0) && has(handle, sub, 0, 1, '.', HUTTAVEL_DIM));
+    CHECK(row == 2 && column == 3 && shows(handle, window, 1, 1, 'h', 0) && shows(handle, sub, 0, 1, '.', HUTTAVEL_DIM));
     IS(HUTTAVEL_OK, huttavel_new_pad(handle, 2, 2, &pad));
     IS(HUTTAVEL_OUT_OF_WINDOW, huttavel_resize_window(handle, pad, 0, 2));
     IS(HUTTAVEL_TOO_BIG, huttavel_resize_window(handle, pad, 1001, 1000));
