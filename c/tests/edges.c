@@ -229,11 +229,14 @@ static void counted(void)
 
 int main(void)
 {
-    FILE *output = fopen("/dev/null", "w");
+    FILE *output = fopen("/dev/null", "w"), *input = NULL;
     int ends[2];
     size_t n;
-    SCREEN *screen = output && pipe(ends) == 0 ? newterm("xterm", output, fdopen(ends[0], "r")) : NULL;
+    SCREEN *screen;
 
+    if (pipe(ends) == 0)
+        input = fdopen(ends[0], "r");
+    screen = output && input ? newterm("xterm", output, input) : NULL;
     if (!screen) {
         puts("edges: no screen on the terminal xterm");
         return 1;
@@ -248,6 +251,9 @@ int main(void)
     counted();
     endwin();
     delscreen(screen);
+    fclose(output);
+    fclose(input);
+    close(ends[1]);
     printf("edges: %u rows %s\n", (unsigned)n, failed ? "not as wanted" : "as wanted");
     return failed;
 }
