@@ -16,6 +16,7 @@ HUTTAVEL_VERSION = $(shell sed -n 's/^.define HUTTAVEL_VERSION "\(.*\)"$$/\1/p' 
 CFLAGS ?= -O2
 CXX ?= c++
 OBJCOPY ?= objcopy
+NM ?= nm
 SHIM_FLAGS := -std=c99 -Wall -Wextra -pedantic -I $(SHIM) -I $(HUTTAVEL_INCLUDE)
 SHIM_HEADERS := $(addprefix $(SHIM),curses.h ncurses.h panel.h term.h termcap.h unctrl.h)
 # Parts of curses.h and of term.h.
@@ -53,7 +54,8 @@ $(SHIM_OUT)/libhuttavel_curses.a: $(SHIM_OBJECTS)
 $(SHIM_OUT)/%.o: $(SHIM)%.c $(SHIM_PARTS) $(SHIM_HEADERS)
 	mkdir -p $(SHIM_OUT)
 	$(CC) $(SHIM_FLAGS) $(CFLAGS) -fPIC -fno-semantic-interposition -c $< -o $@
-	$(OBJCOPY) --weaken $@
+	$(NM) -g --defined-only $@ | sed -n 's/.* [A-Z] //p' > $@.names
+	$(OBJCOPY) --weaken-symbols=$@.names $@
 
 # Each header alone, and two together in either order; but term.h is last, since its names are macros.
 check-headers:
