@@ -7,9 +7,7 @@
 
 #include <curses.h>
 
-#include <stdlib.h>
-#include <string.h>
-#include <unistd.h>
+#include <stdio.h>
 
 enum { ROWS = 4, COLUMNS = 10 };
 
@@ -229,14 +227,10 @@ static void counted(void)
 
 int main(void)
 {
-    FILE *output = fopen("/dev/null", "w"), *input = NULL;
-    int ends[2];
+    FILE *nothing = fopen("/dev/null", "r+");
+    SCREEN *screen = nothing ? newterm("xterm", nothing, nothing) : NULL;
     size_t n;
-    SCREEN *screen;
 
-    if (pipe(ends) == 0)
-        input = fdopen(ends[0], "r");
-    screen = output && input ? newterm("xterm", output, input) : NULL;
     if (!screen) {
         puts("edges: no screen on the terminal xterm");
         return 1;
@@ -251,9 +245,7 @@ int main(void)
     counted();
     endwin();
     delscreen(screen);
-    fclose(output);
-    fclose(input);
-    close(ends[1]);
+    fclose(nothing);
     printf("edges: %u rows %s\n", (unsigned)n, failed ? "not as wanted" : "as wanted");
     return failed;
 }
