@@ -67,7 +67,7 @@ static struct text read_in(const char *folder, size_t length, struct search *sea
         return text;
     snprintf(path, room, "%.*s/%c/%s", (int)length, folder, name[0], name);
     text = read_file(path, search);
-    if (!text.bytes) {
+    if (!text.bytes && !search->is_short) {
         snprintf(path, room, "%.*s/%02x/%s", (int)length, folder, (unsigned char)name[0], name);
         text = read_file(path, search);
     }
@@ -83,7 +83,7 @@ static struct text read_among(const char *folders, struct search *search)
 {
     struct text text = {NULL, 0};
 
-    while (!text.bytes) {
+    while (!text.bytes && !search->is_short) {
         size_t length = strcspn(folders, ":");
 
         text = length ? read_in(folders, length, search) : read_among(SYSTEM_FOLDERS, search);
@@ -121,7 +121,8 @@ static struct text read_at_home(const char *home, struct search *search)
     return text;
 }
 
-/* Finds and reads the entry that is looked for. NULL bytes if there is none. */
+/* Finds and reads the entry that is looked for. NULL bytes if there is none. The search ends where memory runs out:
+   another folder may have another entry of the name. */
 static struct text find_entry(struct search *search)
 {
     struct text text = {NULL, 0};
@@ -133,7 +134,7 @@ static struct text find_entry(struct search *search)
     }
     if (given && *given)
         text = read_in(given, strlen(given), search);
-    if (!text.bytes && home && *home)
+    if (!text.bytes && !search->is_short && home && *home)
         text = read_at_home(home, search);
     if (!text.bytes && listed && *listed)
         text = read_among(listed, search);
