@@ -232,16 +232,14 @@ static uint32_t lines_from(const WINDOW *window, int first, int count)
     return (uint32_t)count;
 }
 
-/* Marks rows of the screen where lines of a window lie that reaches over its edge. */
+/* Marks rows of the screen where lines of a window lie that reaches over its edge. ERR if the first is outside. */
 static int redraw_over_edge(WINDOW *window, int first, int count)
 {
     WINDOW *whole = whole_window(window->screen);
     int rows = window->screen->rows - window->row;
 
-    if (!whole || first < 0 || count < 0 || first > window->rows - count)
+    if (!whole || first < 0 || first >= rows || count < 0 || first > window->rows - count)
         return ERR;
-    if (first >= rows)
-        return OK;
     return answer(huttavel_redraw_lines(handle_of(whole), whole->number, (uint32_t)(screen_row_of(window) + first),
                                         (uint32_t)(count < rows - first ? count : rows - first)));
 }
