@@ -104,6 +104,9 @@ static int decoded_key(SCREEN *screen)
         huttavel_key_idle(&screen->handle);
         key = queued_key(screen);
     }
+    /* Once all bytes are keys, no wait is shortened. */
+    if (reading->held_count == 0 && reading->in_handle == 0)
+        reading->is_undecided = false;
     return key;
 }
 

@@ -109,6 +109,37 @@ static int next_key(WINDOW *window)
     }
 }
 
+/* The next byte of a line that is read whole, and shown as it is typed if echo() is on. If the size changes meanwhile,
+   what was typed of the line comes first. */
+static int next_of_line(WINDOW *window)
+{
+    SCREEN *screen = window->screen;
+    struct typed *typed = &screen->typed;
+    int done;
+
+    if (typed->taken == typed->length) {
+        typed->is_reading = true;
+        done = wgetnstr(window, typed->text, LONGEST_LINE - 2);
+        typed->is_reading = false;
+        typed->length = strlen(typed->text);
+        typed->taken = 0;
+        if (done == OK)
+            typed->text[typed->length++] = '\n';
+        else if (typed->length == 0)
+            return done;
+        else if (done == KEY_RESIZE)
+            screen->has_new_size = true;
+    }
+    return (unsigned char)typed->text[typed->taken++];
+}
+
+/* Whether the terminal is read line by line. */
+static bool is_by_lines(const SCREEN *screen)
+{
+    return screen == current && screen->line.is_terminal && screen->line.program.c_lflag & ICANON &&
+           !screen->typed.is_reading;
+}
+
 int wgetch(WINDOW *window)
 {
     SCREEN *screen;
@@ -121,7 +152,11 @@ int wgetch(WINDOW *window)
         wrefresh(window);
     if (!screen->has_ended)
         set_transmitting(screen, window->is_keypad);
-    key = screen->pushed_count ? screen->pushed[--screen->pushed_count] : next_key(window);
+    if (screen->pushed_count)
+        return screen->pushed[--screen->pushed_count];
+    if (is_by_lines(screen))
+        return next_of_line(window);
+    key = next_key(window);
     if (key == '\r' && screen->is_newline)
         key = '\n';
     if (screen->is_echo && !window->is_pad && key >= 0 && key < KEY_MIN)
@@ -144,6 +179,7 @@ int flushinp(void)
     if (current->line.is_terminal)
         tcflush(current->line.input, TCIFLUSH);
     current->pushed_count = 0;
+    current->typed.taken = current->typed.length;
     forget_typed(current);
     return OK;
 }

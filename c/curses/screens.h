@@ -6,6 +6,9 @@
 /* How many keys ungetch() keeps. */
 #define PUSHED 64
 
+/* The longest line that getch() reads whole, with its end. */
+#define LONGEST_LINE 256
+
 /* The greatest number of rows and columns of a screen. */
 #define LARGEST 500
 
@@ -56,6 +59,13 @@ struct reading {
     bool is_idle;              /* no byte came for a while: what is held waits for no more */
     bool is_undecided;         /* bytes may wait for more, until `decided_at` */
     long long decided_at;
+};
+
+/* A line that getch() read whole, where the terminal is read line by line, and how many bytes of it were taken. */
+struct typed {
+    char text[LONGEST_LINE];
+    size_t length, taken;
+    bool is_reading;           /* the line is being read, byte by byte */
 };
 
 /* The mouse. A press may wait for its release: then both are a click. */
@@ -140,6 +150,7 @@ struct huttavel_curses_screen {
     int visibility;            /* curs_set() */
     int pushed[PUSHED];        /* ungetch() */
     int pushed_count;
+    struct typed typed;
     struct reading reading;
     struct definition *definitions; /* define_key() */
     bool is_off[KEY_MAX + 1];  /* the keys of the entry that keyok() turned off */

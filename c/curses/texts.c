@@ -106,6 +106,22 @@ static int drop_last(WINDOW *window, const char *line, int length, int row, int 
     return length - 1;
 }
 
+/* Moves the cursor to the next line: a window that scrolls does so if its last line is shown. */
+static void end_line(WINDOW *window, bool may_scroll)
+{
+    int row = getcury(window);
+    bool is_scrolling = false;
+
+    huttavel_is_scroll_ok(handle_of(window), window->number, &is_scrolling);
+    if (row < window->rows - 1)
+        wmove(window, row + 1, 0);
+    else if (may_scroll && is_scrolling)
+        waddch(window, '\n');
+    else
+        wmove(window, row, 0);
+    wrefresh(window);
+}
+
 /* Reads a line with echo() off, and shows it if it was on. */
 static int read_line(WINDOW *window, char *line, int most, bool is_echoed)
 {
@@ -116,8 +132,7 @@ static int read_line(WINDOW *window, char *line, int most, bool is_echoed)
 
         if (key == ERR || key == '\n' || key == '\r' || key == KEY_ENTER || key == KEY_DOWN || key == KEY_RESIZE) {
             line[length] = '\0';
-            if (is_echoed && wmove(window, row + 1, 0) == OK)
-                wrefresh(window);
+            end_line(window, is_echoed && key != ERR && key != KEY_RESIZE);
             return key == ERR || key == KEY_RESIZE ? key : OK;
         }
         if (key == KEY_BACKSPACE || key == KEY_LEFT || key == (unsigned char)erasechar() || key == '\b') {

@@ -104,7 +104,14 @@ static void input_modes(void)
     CHECK(nocbreak() == OK && modes().c_lflag & ICANON && modes().c_iflag & ICRNL);
     type("b\r");
     CHECK(getch() == 'b' && getch() == '\n');
-    CHECK(noraw() == OK && modes().c_iflag & ICRNL);
+    /* It is shown while it is typed, if echo() is on, and what is taken away of it never comes. */
+    echo();
+    move(5, 0);
+    type("xy\177z\r");
+    CHECK(getch() == 'x' && mvinch(5, 1) == 'z' && mvinch(5, 2) == ' ' && getch() == 'z' && getch() == '\n');
+    CHECK(ungetch('u') == OK && move(6, 0) == OK && getch() == 'u' && mvinch(6, 0) == ' ');
+    noecho();
+    CHECK(modes().c_lflag & ICANON && noraw() == OK && modes().c_iflag & ICRNL);
     type("c\r");
     CHECK(getch() == 'c' && getch() == '\n');
     /* What is typed without waiting, and with. */
