@@ -2,11 +2,10 @@
  * time or fails. At the end a terminal that was sent all of it shows what the screen wants. And where an allocation
  * fails in a call about an entry, of huttavel.h or of term.h, or in newterm(), the call fails, changes nothing, and
  * works when it is made again.
- *
- * Linked with --wrap of malloc, calloc and realloc.
  */
 #define _XOPEN_SOURCE 700
 
+#include "refuse.h"
 #include "terminal.h"
 
 #define HUTTAVEL_NO_TERM_NAMES
@@ -14,43 +13,6 @@
 
 #include <stdio.h>
 #include <stdlib.h>
-
-void *__real_malloc(size_t size);
-void *__real_calloc(size_t count, size_t size);
-void *__real_realloc(void *memory, size_t size);
-void *__wrap_malloc(size_t size);
-void *__wrap_calloc(size_t count, size_t size);
-void *__wrap_realloc(void *memory, size_t size);
-
-static unsigned long allocations, refused;
-
-void *__wrap_malloc(size_t size)
-{
-    return ++allocations == refused ? NULL : __real_malloc(size);
-}
-
-void *__wrap_calloc(size_t count, size_t size)
-{
-    return ++allocations == refused ? NULL : __real_calloc(count, size);
-}
-
-void *__wrap_realloc(void *memory, size_t size)
-{
-    return ++allocations == refused ? NULL : __real_realloc(memory, size);
-}
-
-/* Refuses one allocation of those that come. */
-static void refuse(unsigned long number)
-{
-    allocations = 0;
-    refused = number;
-}
-
-/* Whether an allocation was refused after there had been so many. */
-static bool was_refused(unsigned long before)
-{
-    return before < refused && refused <= allocations;
-}
 
 static uint64_t state = 88172645463325252u;
 
@@ -311,20 +273,6 @@ static bool names_with_refused(unsigned long number)
     if (file)
         fclose(file);
     return kept && del_curterm(first) == OK && del_curterm(second) == OK && del_curterm(cur_term) == OK && !cur_term;
-}
-
-/* Does this with each of its allocations refused. How many there are; 0 if something is lost. */
-static unsigned long each_refused(bool (*with)(unsigned long))
-{
-    unsigned long all, number;
-
-    if (!with(0))
-        return 0;
-    all = allocations;
-    for (number = 1; number <= all; number++)
-        if (!with(number))
-            return 0;
-    return all;
 }
 
 int main(void)
