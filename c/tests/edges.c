@@ -1,7 +1,7 @@
 /* Characters that are added and inserted where a line ends, and in the last line: what the call gives, where the
- * cursor is then, and all cells. The rows are worked out by hand from X/Open Curses Issue 7, addch(), addnstr(), insch()
- * and insnstr(); what that leaves open is as in ncurses 6.4, over which this program compiles and passes too. Each row
- * holds of a window, a subwindow, a pad and a window that reaches over the edge of the screen.
+ * cursor is then, and all cells. The rows are worked out by hand from X/Open Curses Issue 7, addch(), addnstr(),
+ * insch() and insnstr(); what that leaves open is as in ncurses 6.4, over which this program compiles and passes too.
+ * Each row holds of a window, a subwindow, a pad and a window that reaches over the edge of the screen.
  */
 #define _XOPEN_SOURCE 700
 

@@ -89,7 +89,8 @@ static bool with_refused(unsigned long number)
     slk_init(0);
     refuse(number);
     kept = nothing && file && dumped >= 0 && MADE(screen, newterm("xterm", nothing, nothing)) && DONE(start_color()) &&
-           DONE(init_pair(1, COLOR_RED, COLOR_BLUE)) && makes() && changes() && shows() && files(file, name) && resizes();
+           DONE(init_pair(1, COLOR_RED, COLOR_BLUE)) && makes() && changes() && shows() && files(file, name) &&
+           resizes();
     if (!kept)
         printf("refused: %s, allocation %lu\n", last, number);
     if (panel)
