@@ -28,6 +28,7 @@
 #include "curses/line.c"
 #include "curses/signals.c"
 #include "curses/characters.c"
+#include "curses/marks.c"
 #include "curses/windows.c"
 #include "curses/changes.c"
 #include "curses/settings.c"

@@ -95,7 +95,13 @@ static int add_one(WINDOW *window, chtype character)
 
 int waddch(WINDOW *window, const chtype character)
 {
-    return window ? changed(window, add_one(window, character)) : ERR;
+    int row = getcury(window), column = getcurx(window), done;
+
+    if (!window)
+        return ERR;
+    done = add_one(window, character);
+    mark_written(window, row, column, 1, is_printable(byte_of(character)));
+    return changed_marked(window, done);
 }
 
 int wechochar(WINDOW *window, const chtype character)
@@ -147,7 +153,17 @@ static size_t length_of(const char *text, int most)
 
 int waddnstr(WINDOW *window, const char *text, int most)
 {
-    return window && text ? changed(window, add_bytes(window, text, length_of(text, most))) : ERR;
+    int row = getcury(window), column = getcurx(window), done;
+    size_t length, count = 0;
+
+    if (!window || !text)
+        return ERR;
+    length = length_of(text, most);
+    done = add_bytes(window, text, length);
+    while (count < length && is_printable((uint8_t)text[count]))
+        count++;
+    mark_written(window, row, column, length, count == length);
+    return changed_marked(window, done);
 }
 
 int waddstr(WINDOW *window, const char *text)
@@ -181,15 +197,20 @@ int whline(WINDOW *window, chtype character, int count)
     if (!window)
         return ERR;
     character = or_default(drawn_in(window, character), ACS_HLINE);
-    return changed(window, draw_line(huttavel_line_across, window, character, count));
+    mark(window, getcury(window), getcurx(window), getcurx(window) + count - 1);
+    return changed_marked(window, draw_line(huttavel_line_across, window, character, count));
 }
 
 int wvline(WINDOW *window, chtype character, int count)
 {
+    int row;
+
     if (!window)
         return ERR;
     character = or_default(drawn_in(window, character), ACS_VLINE);
-    return changed(window, draw_line(huttavel_line_down, window, character, count));
+    for (row = getcury(window); row - getcury(window) < count && row < window->rows; row++)
+        mark(window, row, getcurx(window), getcurx(window));
+    return changed_marked(window, draw_line(huttavel_line_down, window, character, count));
 }
 
 /* Draws a border piece by piece, each with its attributes. The cursor stays. */

@@ -93,7 +93,8 @@ int waddchnstr(WINDOW *window, const chtype *characters, int most)
         put_cells(window, (int)aside.row, (int)aside.column + done, cells, n);
     }
     end_cells(window, &aside);
-    return changed(window, OK);
+    mark(window, (int)aside.row, (int)aside.column, (int)aside.column + count - 1);
+    return changed_marked(window, OK);
 }
 
 int waddchstr(WINDOW *window, const chtype *characters)
@@ -124,5 +125,6 @@ int wchgat(WINDOW *window, int count, attr_t attrs, short pair, const void *opti
         put_cells(window, (int)aside.row, (int)aside.column + done, cells, n);
     }
     end_cells(window, &aside);
-    return changed(window, OK);
+    mark(window, (int)aside.row, (int)aside.column, (int)aside.column + count - 1);
+    return changed_marked(window, OK);
 }

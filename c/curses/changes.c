@@ -1,7 +1,7 @@
 /* What follows a change of a window by itself: immedok(), syncok(). */
 
-/* Comes after each call that changes cells of a window, and gives the call's answer. */
-static int changed(WINDOW *window, int done)
+/* Comes after a call that changed cells of a window which are marked, and gives the call's answer. */
+static int changed_marked(WINDOW *window, int done)
 {
     if (!window || is_shown(window))
         return done;
@@ -10,6 +10,14 @@ static int changed(WINDOW *window, int done)
     if (window->is_immediate && !window->is_pad)
         wrefresh(window);
     return done;
+}
+
+/* Comes after each other call that changes cells of a window, and gives the call's answer. */
+static int changed(WINDOW *window, int done)
+{
+    if (window)
+        mark_all(window);
+    return changed_marked(window, done);
 }
 
 void immedok(WINDOW *window, bool on)

@@ -16,17 +16,25 @@ int wclear(WINDOW *window)
 
 int wclrtoeol(WINDOW *window)
 {
-    return changed(window, answer(huttavel_clear_to_eol(handle_of(window), number_of(window))));
+    if (window)
+        mark(window, getcury(window), getcurx(window), window->columns - 1);
+    return changed_marked(window, answer(huttavel_clear_to_eol(handle_of(window), number_of(window))));
 }
 
 int wclrtobot(WINDOW *window)
 {
-    return changed(window, answer(huttavel_clear_to_bottom(handle_of(window), number_of(window))));
+    if (window) {
+        mark(window, getcury(window), getcurx(window), window->columns - 1);
+        mark_lines(window, getcury(window) + 1, window->rows - 1);
+    }
+    return changed_marked(window, answer(huttavel_clear_to_bottom(handle_of(window), number_of(window))));
 }
 
 int wdelch(WINDOW *window)
 {
-    return changed(window, answer(huttavel_delete_byte(handle_of(window), number_of(window))));
+    if (window)
+        mark(window, getcury(window), getcurx(window), window->columns - 1);
+    return changed_marked(window, answer(huttavel_delete_byte(handle_of(window), number_of(window))));
 }
 
 int winsdelln(WINDOW *window, int count)

@@ -86,12 +86,16 @@ static int copy_over_edge(WINDOW *window)
     bool is_anywhere = false;
 
     columns = columns < window->columns ? columns : window->columns;
-    for (line = 0; line < window->rows && line < screen->rows - window->row && columns > 0; line++)
-        if (is_linetouched(window, line) &&
-            huttavel_pad_noutrefresh(handle_of(window), window->number, (uint32_t)line, 0, (uint32_t)(top + line),
-                                     (uint32_t)left, (uint32_t)(top + line),
-                                     (uint32_t)(left + columns - 1)) != HUTTAVEL_OK)
+    for (line = 0; line < window->rows && line < screen->rows - window->row && columns > 0; line++) {
+        struct places places = marked(window, line);
+        int last = places.last < columns ? places.last : columns - 1;
+
+        if (is_linetouched(window, line) && places.first <= last &&
+            huttavel_pad_noutrefresh(handle_of(window), window->number, (uint32_t)line, (uint32_t)places.first,
+                                     (uint32_t)(top + line), (uint32_t)(left + places.first), (uint32_t)(top + line),
+                                     (uint32_t)(left + last)) != HUTTAVEL_OK)
             return ERR;
+    }
     untouchwin(window);
     huttavel_is_leave_ok(handle_of(window), window->number, &is_anywhere);
     if (is_anywhere)
@@ -104,6 +108,8 @@ static int copy_over_edge(WINDOW *window)
 /* Copies a window to the virtual screen. For curscr, all rows are repainted. */
 int wnoutrefresh(WINDOW *window)
 {
+    int done;
+
     if (!window)
         return ERR;
     if (is_shown(window)) {
@@ -111,9 +117,16 @@ int wnoutrefresh(WINDOW *window)
         return OK;
     }
     window->has_moved = false;
+    window->was_copied = true;
     if (window->is_over)
-        return copy_over_edge(window);
-    return answer(huttavel_noutrefresh(handle_of(window), window->number));
+        done = copy_over_edge(window);
+    else if (!window->is_whole && has_neighbours(window))
+        done = copy_marked(window);
+    else
+        done = answer(huttavel_noutrefresh(handle_of(window), window->number));
+    if (done == OK)
+        unmark(window);
+    return done;
 }
 
 int wrefresh(WINDOW *window)
@@ -256,6 +269,8 @@ int touchwin(WINDOW *window)
 {
     if (is_shown(window))
         return wnoutrefresh(window);
+    if (window)
+        mark_all(window);
     return answer(huttavel_touch_window(handle_of(window), number_of(window)));
 }
 
@@ -266,8 +281,11 @@ int untouchwin(WINDOW *window)
 
 int wtouchln(WINDOW *window, int first, int count, int changed)
 {
-    return answer(huttavel_touch_lines(handle_of(window), number_of(window), (uint32_t)first,
-                                       lines_from(window, first, count), changed != 0));
+    uint32_t lines = lines_from(window, first, count);
+
+    if (window && changed)
+        mark_lines(window, first, first + (int)lines - 1);
+    return answer(huttavel_touch_lines(handle_of(window), number_of(window), (uint32_t)first, lines, changed != 0));
 }
 
 int touchline(WINDOW *window, int first, int count)

@@ -215,6 +215,7 @@ static void take_over(SCREEN *screen, huttavel to, const struct again *all, int 
     }
     free(screen->whole);
     screen->whole = NULL;
+    screen->has_patch = false;
     show_size(screen->terminal, rows, columns);
     if (screen == current) {
         LINES = screen->rows;

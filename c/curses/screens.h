@@ -105,6 +105,11 @@ struct terminal {
     bool is_of_termcap;        /* only tgetent() opened it, which closes it */
 };
 
+/* Places of a line; none where the first is greater than the last. */
+struct places {
+    short first, last;
+};
+
 struct huttavel_curses_window {
     SCREEN *screen;
     WINDOW *next;              /* in the order in which they were made */
@@ -127,6 +132,9 @@ struct huttavel_curses_window {
     bool is_keypad;
     bool is_untimed;           /* notimeout() */
     int delay;                 /* how long getch() waits: milliseconds, or -1 */
+    bool was_copied;           /* by an update */
+    bool is_whole;             /* all places of lines that are touched count as changed */
+    struct places marks[LARGEST]; /* otherwise the places of each line that were changed since it was copied */
 };
 
 struct huttavel_curses_screen {
@@ -139,6 +147,8 @@ struct huttavel_curses_screen {
     int output;                /* a descriptor */
     WINDOW *windows;           /* all but curscr, the first made first */
     WINDOW *standard, *shown;  /* stdscr and curscr */
+    bool has_patch;
+    uint32_t patch;            /* a pad of the handle of one line, by which parts of lines are copied */
     WINDOW *whole;             /* a window over the whole screen that nothing is written on, or NULL */
     int rows, columns;         /* without the lines that are taken off */
     int above, below;          /* how many lines are taken off the top, and the bottom */

@@ -6,6 +6,8 @@ int clearok(WINDOW *window, bool on)
         window->screen->is_disturbed = on;
         return OK;
     }
+    if (window)
+        mark_all(window);
     return answer(huttavel_clear_ok(handle_of(window), number_of(window), on));
 }
 

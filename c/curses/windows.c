@@ -9,6 +9,7 @@ static void read_window(WINDOW *window)
     huttavel_written_attrs(handle_of(window), window->number, &window->attrs, &window->pair);
     window->rows = (int)rows;
     window->columns = (int)columns;
+    window->is_whole = true;
 }
 
 /* Memory for a window, not of the list yet; NULL if memory runs out. */
@@ -269,11 +270,17 @@ int getparx(const WINDOW *window)
 
 void wsyncup(WINDOW *window)
 {
+    WINDOW *each;
+
+    for (each = window ? window->parent : NULL; each; each = each->parent)
+        mark_all(each);
     huttavel_sync_up(handle_of(window), number_of(window));
 }
 
 void wsyncdown(WINDOW *window)
 {
+    if (window)
+        mark_all(window);
     huttavel_sync_down(handle_of(window), number_of(window));
 }
 

@@ -220,6 +220,52 @@ static void following_changes(void)
     IS(OK, delwin(window));
 }
 
+/* Of a line that changed in some places only these are copied: what another window shows beside them stays. */
+static void copying_what_changed(void)
+{
+    WINDOW *lower = newwin(4, 20, 10, 10), *upper = newwin(2, 6, 11, 20);
+    int row;
+
+    for (row = 0; row < 4; row++)
+        mvwhline(lower, row, 0, '.', 20);
+    IS(OK, wnoutrefresh(lower));
+    IS(OK, mvwaddstr(upper, 0, 0, "upper"));
+    IS(OK, mvwaddstr(upper, 1, 0, "again"));
+    IS(OK, wnoutrefresh(upper));
+    IS(OK, mvwaddstr(lower, 1, 0, "ab"));
+    IS(OK, mvwaddch(lower, 1, 4, 'c'));
+    IS(OK, wnoutrefresh(lower));
+    CHECK(shown(11, 10) == 'a' && shown(11, 14) == 'c' && shown(11, 20) == 'u' && shown(11, 24) == 'r');
+    /* A text that goes on in the next line; the line's end; a line that was touched. */
+    IS(OK, mvwaddstr(lower, 1, 17, "defghi"));
+    IS(OK, wnoutrefresh(lower));
+    CHECK(shown(11, 24) == 'r' && shown(11, 29) == 'f' && shown(12, 12) == 'i' && shown(12, 20) == 'a');
+    IS(OK, wmove(lower, 1, 12));
+    IS(OK, wclrtoeol(lower));
+    IS(OK, wnoutrefresh(lower));
+    CHECK(shown(11, 21) == 'p' && shown(11, 22) == ' ' && shown(11, 29) == ' ');
+    IS(OK, touchline(lower, 2, 1));
+    IS(OK, wnoutrefresh(lower));
+    CHECK(shown(11, 21) == 'p' && shown(12, 20) == '.');
+    IS(OK, touchwin(upper));
+    IS(OK, wnoutrefresh(upper));
+    IS(OK, werase(lower));
+    IS(OK, wnoutrefresh(lower));
+    CHECK(shown(11, 20) == ' ' && shown(12, 24) == ' ');
+    /* Also at another size. */
+    IS(OK, resizeterm(30, 90));
+    IS(OK, wnoutrefresh(lower));
+    IS(OK, mvwaddch(upper, 0, 0, 'U'));
+    IS(OK, wnoutrefresh(upper));
+    IS(OK, mvwaddch(lower, 1, 0, 'L'));
+    IS(OK, wnoutrefresh(lower));
+    CHECK(shown(11, 10) == 'L' && shown(11, 20) == 'U');
+    IS(OK, resizeterm(24, 80));
+    IS(KEY_RESIZE, getch());
+    IS(OK, delwin(upper));
+    IS(OK, delwin(lower));
+}
+
 static void placing_the_cursor(void)
 {
     int row = 7, column = 7;
@@ -817,6 +863,7 @@ int main(void)
     changing_attributes();
     drawing();
     following_changes();
+    copying_what_changed();
     placing_the_cursor();
     echoing_in_pads();
     naming_keys();
