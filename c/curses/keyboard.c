@@ -16,11 +16,14 @@ static int left_until(long long end)
     return left <= 0 ? 0 : left > INT_MAX ? INT_MAX : (int)left;
 }
 
-/* Waits for a byte of the keyboard: 1 if there may be one, 0 if not in time, -1 if a signal came. */
+/* Waits for a byte of the keyboard: 1 if there may be one, 0 if not in time, -1 if a signal came. For ever, the read
+   itself waits: it goes on after a signal whose handler was set with SA_RESTART, as signal() does. */
 static int wait_for_byte(const SCREEN *screen, int milliseconds)
 {
     struct pollfd asked;
 
+    if (milliseconds < 0 && !(fcntl(screen->line.input, F_GETFL) & O_NONBLOCK))
+        return 1;
     asked.fd = screen->line.input;
     asked.events = POLLIN;
     asked.revents = 0;

@@ -133,7 +133,8 @@ static void change_size(int number)
         screen->is_resized = 1;
 }
 
-/* Handles a signal, unless the program does already or ignores it. */
+/* Handles a signal, unless the program does already or ignores it. A getch() that waits has to go on from there, so
+   that its read ends (no SA_RESTART). */
 static void handle(int number, void (*handler)(int))
 {
     struct sigaction action;
@@ -142,7 +143,6 @@ static void handle(int number, void (*handler)(int))
         return;
     memset(&action, 0, sizeof action);
     action.sa_handler = handler;
-    action.sa_flags = SA_RESTART;
     sigaction(number, &action, NULL);
 }
 

@@ -7,6 +7,7 @@
 
 #include <fcntl.h>
 #include <poll.h>
+#include <signal.h>
 #include <stdlib.h>
 #include <string.h>
 #include <sys/ioctl.h>
@@ -86,6 +87,30 @@ static void type_later(const char *key, int milliseconds)
         usleep((useconds_t)milliseconds * 1000);
         _exit(write(keyboard, key, strlen(key)) < 0);
     }
+}
+
+static void be_alarmed(int number)
+{
+    (void)number;
+}
+
+/* A signal that the program handles ends getch(), unless its handler was set so that calls go on. */
+static void waiting_through_signals(void)
+{
+    struct sigaction action;
+    int key;
+
+    memset(&action, 0, sizeof action);
+    action.sa_handler = be_alarmed;
+    sigaction(SIGALRM, &action, NULL);
+    ualarm(50000, 0);
+    CHECK(getch() == ERR);
+    action.sa_flags = SA_RESTART;
+    sigaction(SIGALRM, &action, NULL);
+    ualarm(50000, 0);
+    type_later("r", 200);
+    CHECK(timed_key(&key) >= 100 && key == 'r');
+    signal(SIGALRM, SIG_DFL);
 }
 
 static void input_modes(void)
@@ -238,6 +263,7 @@ int main(void)
     names();
     noecho();
     input_modes();
+    waiting_through_signals();
     ends(&shell);
     comes_back();
     refusals();
