@@ -1,5 +1,5 @@
 -- The sure repaint is all that an update wants.
-use Rattle.std.proofs.Common.{◌≡◌, ℕ, ◌≤◌, ◌||◌, append_assoc, ◌&&◌, not, Bool, true, false, refl, sym, ◌∙◌, ap, subst, arith, List, [], ◌∷◌, ◌++◌, length, Result, Ok, Err, IfOk, if◌then◌else◌}
+use Rattle.std.proofs.Common.{◌≡◌, ℕ, ◌≤◌, append_assoc, ◌&&◌, not, Bool, true, false, refl, sym, ◌∙◌, ap, subst, arith, List, [], ◌∷◌, ◌++◌, length, Result, Ok, Err, IfOk, if◌then◌else◌}
 use Rattle.scr_cells.specs.Grids.{IsGrid}
 use Rattle.scr_cells.specs.PictureViews.{IsPicture}
 use Rattle.scr_cells.specs.declared.NoMemory.{NoMemory}

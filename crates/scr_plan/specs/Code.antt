@@ -5,4 +5,5 @@ pub mod Looking
 pub mod Moves
 pub mod Painters
 pub mod Planning
+pub mod Scenes
 pub mod Settled

@@ -1,8 +1,9 @@
 //! Finding blanks in a row of cells, and whether they are worth an erasure.
 ghost use Rattle.std.specs.Prelude.{◌≡◌, ◌<◌, ◌≤◌, IfSome, length};
 ghost use Rattle.scr_cells.specs.Grids.{grid_row};
+ghost use Rattle.scr_plan.specs.Code.Scenes.{IsLine};
 
-use crate::painting::Painter;
+use crate::scenes::{Line, Scene};
 use scr_cells::{Cell, Look, Picture};
 use scr_term::{Op, Profile};
 
@@ -85,36 +86,25 @@ pub(crate) fn is_worth_erasing(profile: &Profile, count: u32, goes_on: bool) -> 
     count > erasure.saturating_add(motion)
 }
 
-impl Painter {
+impl Scene<'_> {
     // The column from which the rest of a row is to be erased, if that costs less than writing it.
-    pub(crate) fn erased_rest(
-        self,
-        profile: &Profile,
-        picture: &Picture,
-        row: u32,
-        cells: &[Cell],
-        before: Option<&[Look]>,
-        from: u32,
-        end: u32,
-    ) -> Option<u32>
-        requires cells { cells.now ≡ grid_row picture.now.lines row }
-        requires wide { length cells.now ≡ picture.now.columns }
-        requires width { IfSome before (λ looks. length looks.now ≡ picture.now.columns) }
+    pub(crate) fn erased_rest(&self, line: &Line<'_>, from: u32, end: u32) -> Option<u32>
+        requires line { IsLine self.now.picture.now line.now }
         requires from { from ≤ end }
-        requires end { end ≤ picture.now.columns }
+        requires end { end ≤ self.now.picture.now.columns }
         ensures { IfSome result (λ column. (from ≤ column) × (column < end)) }
     {
-        let price = profile.prices().of(Op::EraseLine);
+        let price = self.profile.prices().of(Op::EraseLine);
         if end - from <= price {
             return None;
         }
-        let rest = self.blank_rest(picture, row, cells, before, from, end);
+        let rest = self.blank_rest(line, from, end);
         let column = rest.first?;
         let last = rest.last?;
         if last.saturating_add(1).saturating_sub(column) <= price {
             return None;
         }
-        if !self.is_blank_from(picture, row, cells, end) {
+        if !self.is_blank_from(line.row, line.cells, end) {
             return None;
         }
         Some(column)

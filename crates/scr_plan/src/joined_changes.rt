@@ -8,33 +8,26 @@ ghost use Rattle.scr_plan.specs.Code.Planning.{range_by};
 ghost use Rattle.scr_memory.specs.Memories.{is_known};
 ghost use Rattle.scr_plan.specs.Repaints.{IsSizeOf, ShowsOutside, cleared, differing, differs, is_none_left, joined_places};
 ghost use Rattle.scr_plan.specs.Scratch.{Fits, places_cursor, resets, row_places};
+ghost use Rattle.scr_plan.specs.Code.Scenes.{IsScene, IsUpdate};
 
 use crate::joining::Joining;
 use crate::looked::Looked;
-use crate::painting::Painter;
+use crate::scenes::{Line, Scene, Update};
 use scr_cells::{NoMemory, Picture};
 use scr_memory::Memory;
 use scr_term::{Profile, run_laws};
 use scr_virtual::Virtual;
 
 // Whether any place differs from what is known of it.
-pub(crate) fn differs(
-    painter: Painter,
-    profile: &Profile,
-    memory: &Memory,
-    wanted: &Virtual,
-    by: Looked,
-) -> bool
-    requires painter { painter ≡ painter_of profile.now }
-    requires size { IsSizeOf wanted.now.picture memory.now }
-    requires same { ShowsOutside (range_by by) profile.now memory.now wanted.now }
-    requires known { is_known memory.now ≡ true }
-    ensures { result ≡ not (is_none_left (differing profile.now wanted.now.picture memory.now)) }
+pub(crate) fn differs(update: &Update<'_>) -> bool
+    requires update { IsUpdate update.now }
+    requires known { is_known update.now.memory.now ≡ true }
+    ensures { result ≡ not (is_none_left (differing update.now.scene.profile.now update.now.wanted.now.picture update.now.memory.now)) }
 {
-    let _size = wanted.size();
-    let (first, end) = by.rows(wanted);
+    let _size = update.wanted.size();
+    let (first, end) = update.by.rows(update.wanted);
     for row in first..end {
-        if differs_in(painter, profile, memory, wanted, by, row) {
+        if differs_in(update, row) {
             return true;
         }
     }
@@ -42,30 +35,25 @@ pub(crate) fn differs(
 }
 
 // Whether any place of a row differs from what is known of it.
-fn differs_in(
-    painter: Painter,
-    profile: &Profile,
-    memory: &Memory,
-    wanted: &Virtual,
-    by: Looked,
-    row: u32,
-) -> bool
-    requires painter { painter ≡ painter_of profile.now }
-    requires size { IsSizeOf wanted.now.picture memory.now }
-    requires same { ShowsOutside (range_by by) profile.now memory.now wanted.now }
-    requires known { is_known memory.now ≡ true }
-    requires row { row < wanted.now.picture.rows }
-    ensures none { result ≡ false → (c : ℕ) → c < wanted.now.picture.columns → differs profile.now wanted.now.picture memory.now (row, c) ≡ false }
-    ensures one { result ≡ true → (c : ℕ) × (c < wanted.now.picture.columns) × (differs profile.now wanted.now.picture memory.now (row, c) ≡ true) }
+fn differs_in(update: &Update<'_>, row: u32) -> bool
+    requires update { IsUpdate update.now }
+    requires known { is_known update.now.memory.now ≡ true }
+    requires row { row < update.now.wanted.now.picture.rows }
+    ensures none { result ≡ false → (c : ℕ) → c < update.now.wanted.now.picture.columns → differs update.now.scene.profile.now update.now.wanted.now.picture update.now.memory.now (row, c) ≡ false }
+    ensures one { result ≡ true → (c : ℕ) × (c < update.now.wanted.now.picture.columns) × (differs update.now.scene.profile.now update.now.wanted.now.picture update.now.memory.now (row, c) ≡ true) }
 {
-    let Some((from, last)) = by.in_row(wanted, row) else {
+    let Some((from, last)) = update.by.in_row(update.wanted, row) else {
         return false;
     };
-    let _size = wanted.size();
-    let picture = wanted.picture();
-    let looks = Some(memory.looks(row));
-    let cells = picture.row(row);
-    painter.unlike_from(picture, row, cells, looks, from, last + 1) <= last
+    let _size = update.wanted.size();
+    let scene = &update.scene;
+    let looks = Some(update.memory.looks(row));
+    let line = Line {
+        row,
+        cells: scene.picture.row(row),
+        before: looks,
+    };
+    scene.unlike_from(&line, from, last + 1) <= last
 }
 
 impl Joining {
@@ -74,31 +62,24 @@ impl Joining {
     // there is one.
     pub(crate) fn join_changes(
         &mut self,
-        painter: Painter,
-        profile: &Profile,
-        memory: &Memory,
-        wanted: &Virtual,
-        by: Looked,
+        update: &Update<'_>,
         limit: Option<usize>,
     ) -> Result<(), NoMemory>
-        requires painter { painter ≡ painter_of profile.now }
-        requires fits { Fits profile.now wanted.now.picture }
-        requires size { IsSizeOf wanted.now.picture memory.now }
-        requires same { ShowsOutside (range_by by) profile.now memory.now wanted.now }
-        requires known { is_known memory.now ≡ true }
-        ensures all { OnOk result (limit ≡ None → Continues profile.now self.old self.new (joined_places profile.now wanted.now.picture memory.now ++ resets profile.now ++ places_cursor wanted.now.picture.wish)) }
-        ensures most { OnOk result (CountsAtMost profile.now self.old self.new (joined_places profile.now wanted.now.picture memory.now ++ resets profile.now ++ places_cursor wanted.now.picture.wish)) }
+        requires update { IsUpdate update.now }
+        requires known { is_known update.now.memory.now ≡ true }
+        ensures all { OnOk result (limit ≡ None → Continues update.now.scene.profile.now self.old self.new (joined_places update.now.scene.profile.now update.now.wanted.now.picture update.now.memory.now ++ resets update.now.scene.profile.now ++ places_cursor update.now.wanted.now.picture.wish)) }
+        ensures most { OnOk result (CountsAtMost update.now.scene.profile.now self.old self.new (joined_places update.now.scene.profile.now update.now.wanted.now.picture update.now.memory.now ++ resets update.now.scene.profile.now ++ places_cursor update.now.wanted.now.picture.wish)) }
     {
         run_laws();
-        let _size = wanted.size();
-        let (first, end) = by.rows(wanted);
+        let _size = update.wanted.size();
+        let (first, end) = update.by.rows(update.wanted);
         for row in first..end {
             if self.is_above(limit) {
                 return Ok(());
             }
-            self.join_changed(painter, profile, memory, wanted, by, row)?;
+            self.join_changed(update, row)?;
         }
-        self.finish(painter, profile, wanted.picture())
+        self.finish(&update.scene)
     }
 
     // Whether there are more bytes than a limit, if there is one.
@@ -112,72 +93,41 @@ impl Joining {
     }
 
     // Adds what paints each place of a row that differs from what is known of it.
-    fn join_changed(
-        &mut self,
-        painter: Painter,
-        profile: &Profile,
-        memory: &Memory,
-        wanted: &Virtual,
-        by: Looked,
-        row: u32,
-    ) -> Result<(), NoMemory>
-        requires painter { painter ≡ painter_of profile.now }
-        requires fits { Fits profile.now wanted.now.picture }
-        requires size { IsSizeOf wanted.now.picture memory.now }
-        requires same { ShowsOutside (range_by by) profile.now memory.now wanted.now }
-        requires known { is_known memory.now ≡ true }
-        requires row { row < wanted.now.picture.rows }
-        ensures { OnOk result (Continues profile.now self.old self.new (flat_map (joined_at profile.now wanted.now.picture memory.now) (filter (differs profile.now wanted.now.picture memory.now) (row_places wanted.now.picture.columns row)))) }
+    fn join_changed(&mut self, update: &Update<'_>, row: u32) -> Result<(), NoMemory>
+        requires update { IsUpdate update.now }
+        requires known { is_known update.now.memory.now ≡ true }
+        requires row { row < update.now.wanted.now.picture.rows }
+        ensures { OnOk result (Continues update.now.scene.profile.now self.old self.new (flat_map (joined_at update.now.scene.profile.now update.now.wanted.now.picture update.now.memory.now) (filter (differs update.now.scene.profile.now update.now.wanted.now.picture update.now.memory.now) (row_places update.now.wanted.now.picture.columns row)))) }
     {
-        let _size = wanted.size();
-        match by.in_row(wanted, row) {
+        let _size = update.wanted.size();
+        match update.by.in_row(update.wanted, row) {
             Some((from, last)) => {
-                let looks = Some(memory.looks(row));
-                self.join_row(
-                    painter,
-                    profile,
-                    wanted.picture(),
-                    row,
-                    looks,
-                    from,
-                    last + 1,
-                )
+                let looks = Some(update.memory.looks(row));
+                self.join_row(&update.scene, row, looks, from, last + 1)
             }
             None => Ok(()),
         }
     }
 
     // Adds what paints each place that is not blank, then what places the cursor.
-    pub(crate) fn join_all(
-        &mut self,
-        painter: Painter,
-        profile: &Profile,
-        picture: &Picture,
-    ) -> Result<(), NoMemory>
-        requires painter { painter ≡ painter_of profile.now }
-        requires fits { Fits profile.now picture.now }
-        ensures { OnOk result (Continues profile.now self.old self.new (joined_places profile.now picture.now (cleared picture.now) ++ resets profile.now ++ places_cursor picture.now.wish)) }
+    pub(crate) fn join_all(&mut self, scene: &Scene<'_>) -> Result<(), NoMemory>
+        requires scene { IsScene scene.now }
+        ensures { OnOk result (Continues scene.now.profile.now self.old self.new (joined_places scene.now.profile.now scene.now.picture.now (cleared scene.now.picture.now) ++ resets scene.now.profile.now ++ places_cursor scene.now.picture.now.wish)) }
     {
-        let size = picture.size();
+        let size = scene.picture.size();
         for row in 0..size.rows {
-            self.join_row(painter, profile, picture, row, None, 0, size.columns)?;
+            self.join_row(scene, row, None, 0, size.columns)?;
         }
-        self.finish(painter, profile, picture)
+        self.finish(scene)
     }
 
     // Turns attributes off, and moves the cursor to where the picture wants it.
-    fn finish(
-        &mut self,
-        painter: Painter,
-        profile: &Profile,
-        picture: &Picture,
-    ) -> Result<(), NoMemory>
-        requires painter { painter ≡ painter_of profile.now }
-        requires fits { Fits profile.now picture.now }
-        ensures { OnOk result (Continues profile.now self.old self.new (resets profile.now ++ places_cursor picture.now.wish)) }
+    fn finish(&mut self, scene: &Scene<'_>) -> Result<(), NoMemory>
+        requires scene { IsScene scene.now }
+        ensures { OnOk result (Continues scene.now.profile.now self.old self.new (resets scene.now.profile.now ++ places_cursor scene.now.picture.now.wish)) }
     {
-        let _size = picture.size();
-        self.reset(painter, profile)?;
-        self.place_cursor(painter, profile, picture.wish())
+        let _size = scene.picture.size();
+        self.reset(scene)?;
+        self.place_cursor(scene, scene.picture.wish())
     }
 }

@@ -14,11 +14,13 @@ ghost use Rattle.scr_plan.specs.Code.Painters.{is_that_pen, painter_begins, pain
 ghost use Rattle.scr_memory.specs.Memories.{MemoryView};
 ghost use Rattle.scr_plan.specs.Repaints.{differs, look_eq};
 ghost use Rattle.scr_plan.specs.Scratch.{Fits, row_places};
+ghost use Rattle.scr_plan.specs.Code.Scenes.{IsLine, IsScene};
 
 use crate::joining::{Joining, spot_after};
 use crate::looking::{is_shown_in, is_that_pen};
-use crate::painting::Painter;
+use crate::scenes::{Line, Scene};
 use scr_cells::{Cell, Look, NoMemory, Pen, Picture};
+use scr_prices::Target;
 use scr_term::{Profile, profiles_have, run_laws};
 
 impl Joining {
@@ -26,36 +28,33 @@ impl Joining {
     // Only columns `from..end` can differ.
     pub(crate) fn join_row(
         &mut self,
-        painter: Painter,
-        profile: &Profile,
-        picture: &Picture,
+        scene: &Scene<'_>,
         row: u32,
         before: Option<&[Look]>,
         from: u32,
         end: u32,
     ) -> Result<(), NoMemory>
-        requires painter { painter ≡ painter_of profile.now }
-        requires fits { Fits profile.now picture.now }
-        requires row { row < picture.now.rows }
-        requires width { IfSome before (λ looks. length looks.now ≡ picture.now.columns) }
+        requires scene { IsScene scene.now }
+        requires row { row < scene.now.picture.now.rows }
+        requires width { IfSome before (λ looks. length looks.now ≡ scene.now.picture.now.columns) }
         requires from { from ≤ end }
-        requires end { end ≤ picture.now.columns }
-        requires outside { (c : ℕ) → (c < from) ⊎ (end ≤ c) → c < picture.now.columns → row_differs painter picture.now (option_map (λ looks. looks.now) before) (row, c) ≡ false }
+        requires end { end ≤ scene.now.picture.now.columns }
+        requires outside { (c : ℕ) → (c < from) ⊎ (end ≤ c) → c < scene.now.picture.now.columns → row_differs scene.now.painter scene.now.picture.now (option_map (λ looks. looks.now) before) (row, c) ≡ false }
         ensures { OnOk result ((memory : MemoryView) → ShowsRow memory row (option_map (λ looks. looks.now) before.entry)
-            → Continues profile.now self.old self.new (flat_map (joined_at profile.now picture.now memory) (filter (differs profile.now picture.now memory) (row_places picture.now.columns row)))) }
+            → Continues scene.now.profile.now self.old self.new (flat_map (joined_at scene.now.profile.now scene.now.picture.now memory) (filter (differs scene.now.profile.now scene.now.picture.now memory) (row_places scene.now.picture.now.columns row)))) }
     {
-        let cells = picture.row(row);
-        match painter.erased_column(profile, picture, row, cells, before, from, end) {
+        let line = &Line {
+            row,
+            cells: scene.picture.row(row),
+            before,
+        };
+        match scene.erased_column(line, from, end) {
             Some(column) => {
-                let left = self.join_part(
-                    painter, profile, picture, row, cells, before, from, column,
-                )?;
-                self.erase_from(painter, profile, picture, row, column, left)
+                let left = self.join_part(scene, line, from, column)?;
+                self.erase_from(scene, row, column, left)
             }
             None => {
-                let _left = self.join_part(
-                    painter, profile, picture, row, cells, before, from, end,
-                )?;
+                let _left = self.join_part(scene, line, from, end)?;
                 Ok(())
             }
         }
@@ -65,34 +64,25 @@ impl Joining {
     // does not. Returns the pen of the last place if it was painted.
     fn join_part(
         &mut self,
-        painter: Painter,
-        profile: &Profile,
-        picture: &Picture,
-        row: u32,
-        cells: &[Cell],
-        before: Option<&[Look]>,
+        scene: &Scene<'_>,
+        line: &Line<'_>,
         from: u32,
         end: u32,
     ) -> Result<Option<Pen>, NoMemory>
-        requires painter { painter ≡ painter_of profile.now }
-        requires fits { Fits profile.now picture.now }
-        requires row { row < picture.now.rows }
-        requires cells { cells.now ≡ grid_row picture.now.lines row }
-        requires wide { length cells.now ≡ picture.now.columns }
-        requires width { IfSome before (λ looks. length looks.now ≡ picture.now.columns) }
+        requires scene { IsScene scene.now }
+        requires row { line.now.row < scene.now.picture.now.rows }
+        requires line { IsLine scene.now.picture.now line.now }
         requires from { from ≤ end }
-        requires end { end ≤ picture.now.columns }
-        requires first { pen_before painter picture.now (option_map (λ looks. looks.now) before) row from ≡ None }
-        ensures all { IfOk result (λ left. Continues profile.now self.old self.new (flat_map (row_paints painter picture.now (option_map (λ looks. looks.now) before.entry)) (filter (row_differs painter picture.now (option_map (λ looks. looks.now) before.entry)) (part_places from (end - from) row)))) }
-        ensures left { IfOk result (λ left. left ≡ pen_before painter picture.now (option_map (λ looks. looks.now) before.entry) row end) }
-        ensures after { IfOk result (λ left. IsAfter picture.now.columns self.new row end left) }
+        requires end { end ≤ scene.now.picture.now.columns }
+        requires first { pen_before scene.now.painter scene.now.picture.now (option_map (λ looks. looks.now) line.now.before) line.now.row from ≡ None }
+        ensures all { IfOk result (λ left. Continues scene.now.profile.now self.old self.new (flat_map (row_paints scene.now.painter scene.now.picture.now (option_map (λ looks. looks.now) line.now.before)) (filter (row_differs scene.now.painter scene.now.picture.now (option_map (λ looks. looks.now) line.now.before)) (part_places from (end - from) line.now.row)))) }
+        ensures left { IfOk result (λ left. left ≡ pen_before scene.now.painter scene.now.picture.now (option_map (λ looks. looks.now) line.now.before) line.now.row end) }
+        ensures after { IfOk result (λ left. IsAfter scene.now.picture.now.columns self.new line.now.row end left) }
     {
         let mut left = None;
         let mut column = from;
         while column < end {
-            (column, left) = self.join_next(
-                painter, profile, picture, row, cells, before, column, end, left,
-            )?;
+            (column, left) = self.join_next(scene, line, column, end, left)?;
         }
         Ok(left)
     }
@@ -102,45 +92,45 @@ impl Joining {
     #[inline(always)]
     fn join_next(
         &mut self,
-        painter: Painter,
-        profile: &Profile,
-        picture: &Picture,
-        row: u32,
-        cells: &[Cell],
-        before: Option<&[Look]>,
+        scene: &Scene<'_>,
+        line: &Line<'_>,
         column: u32,
         end: u32,
         left: Option<Pen>,
     ) -> Result<(u32, Option<Pen>), NoMemory>
-        requires painter { painter ≡ painter_of profile.now }
-        requires fits { Fits profile.now picture.now }
-        requires row { row < picture.now.rows }
-        requires cells { cells.now ≡ grid_row picture.now.lines row }
-        requires wide { length cells.now ≡ picture.now.columns }
-        requires width { IfSome before (λ looks. length looks.now ≡ picture.now.columns) }
+        requires scene { IsScene scene.now }
+        requires row { line.now.row < scene.now.picture.now.rows }
+        requires line { IsLine scene.now.picture.now line.now }
         requires column { column < end }
-        requires end { end ≤ picture.now.columns }
-        requires left { left ≡ pen_before painter picture.now (option_map (λ looks. looks.now) before) row column }
-        requires after { IsAfter picture.now.columns self.old row column left }
+        requires end { end ≤ scene.now.picture.now.columns }
+        requires left { left ≡ pen_before scene.now.painter scene.now.picture.now (option_map (λ looks. looks.now) line.now.before) line.now.row column }
+        requires after { IsAfter scene.now.picture.now.columns self.old line.now.row column left }
         ensures more { IfOk result (λ next. column < next.0) }
         ensures end { IfOk result (λ next. next.0 ≤ end) }
-        ensures left { IfOk result (λ next. next.1 ≡ pen_before painter picture.now (option_map (λ looks. looks.now) before.entry) row next.0) }
-        ensures after { IfOk result (λ next. IsAfter picture.now.columns self.new row next.0 next.1) }
-        ensures all { IfOk result (λ next. Continues profile.now self.old self.new (flat_map (row_paints painter picture.now (option_map (λ looks. looks.now) before.entry)) (filter (row_differs painter picture.now (option_map (λ looks. looks.now) before.entry)) (part_places column (next.0 - column) row)))) }
+        ensures left { IfOk result (λ next. next.1 ≡ pen_before scene.now.painter scene.now.picture.now (option_map (λ looks. looks.now) line.now.before) line.now.row next.0) }
+        ensures after { IfOk result (λ next. IsAfter scene.now.picture.now.columns self.new line.now.row next.0 next.1) }
+        ensures all { IfOk result (λ next. Continues scene.now.profile.now self.old self.new (flat_map (row_paints scene.now.painter scene.now.picture.now (option_map (λ looks. looks.now) line.now.before)) (filter (row_differs scene.now.painter scene.now.picture.now (option_map (λ looks. looks.now) line.now.before)) (part_places column (next.0 - column) line.now.row)))) }
     {
-        let _size = picture.size();
-        let (byte, pen) = painter.seen_in(picture, cells, column);
-        if is_shown_in(before, column, byte, pen) {
-            let next = painter.unlike_from(picture, row, cells, before, column + 1, end);
+        let _size = scene.picture.size();
+        let (byte, pen) = scene.seen_in(line.cells, column);
+        if is_shown_in(line.before, column, byte, pen) {
+            let next = scene.unlike_from(line, column + 1, end);
             return Ok((next, None));
         }
         if self.keeps {
-            self.write(painter, profile, picture, row, column, left, byte, pen)?;
+            self.write(
+                scene,
+                &Target {
+                    row: line.row,
+                    column,
+                    pen,
+                },
+                left,
+                byte,
+            )?;
             return Ok((column + 1, Some(pen)));
         }
-        let next = self.count_unlike(
-            painter, profile, picture, row, cells, before, column, end, left, pen,
-        )?;
+        let next = self.count_unlike(scene, line, column, end, left, pen)?;
         Ok((next, Some(pen)))
     }
 
@@ -148,43 +138,44 @@ impl Joining {
     // pen. Returns where to go on.
     fn count_unlike(
         &mut self,
-        painter: Painter,
-        profile: &Profile,
-        picture: &Picture,
-        row: u32,
-        cells: &[Cell],
-        before: Option<&[Look]>,
+        scene: &Scene<'_>,
+        line: &Line<'_>,
         column: u32,
         end: u32,
         left: Option<Pen>,
         pen: Pen,
     ) -> Result<u32, NoMemory>
-        requires painter { painter ≡ painter_of profile.now }
-        requires fits { Fits profile.now picture.now }
+        requires scene { IsScene scene.now }
         requires counts { self.old.keeps ≡ false }
-        requires row { row < picture.now.rows }
-        requires cells { cells.now ≡ grid_row picture.now.lines row }
-        requires wide { length cells.now ≡ picture.now.columns }
-        requires width { IfSome before (λ looks. length looks.now ≡ picture.now.columns) }
+        requires row { line.now.row < scene.now.picture.now.rows }
+        requires line { IsLine scene.now.picture.now line.now }
         requires column { column < end }
-        requires end { end ≤ picture.now.columns }
-        requires unlike { row_differs painter picture.now (option_map (λ looks. looks.now) before) (row, column) ≡ true }
-        requires pen { pen ≡ (painter_look painter picture.now (row, column)).pen }
-        requires left { left ≡ pen_before painter picture.now (option_map (λ looks. looks.now) before) row column }
-        requires after { IsAfter picture.now.columns self.old row column left }
+        requires end { end ≤ scene.now.picture.now.columns }
+        requires unlike { row_differs scene.now.painter scene.now.picture.now (option_map (λ looks. looks.now) line.now.before) (line.now.row, column) ≡ true }
+        requires pen { pen ≡ (painter_look scene.now.painter scene.now.picture.now (line.now.row, column)).pen }
+        requires left { left ≡ pen_before scene.now.painter scene.now.picture.now (option_map (λ looks. looks.now) line.now.before) line.now.row column }
+        requires after { IsAfter scene.now.picture.now.columns self.old line.now.row column left }
         ensures more { IfOk result (λ next. column < next) }
         ensures end { IfOk result (λ next. next ≤ end) }
-        ensures left { IfOk result (λ next. Some pen ≡ pen_before painter picture.now (option_map (λ looks. looks.now) before.entry) row next) }
-        ensures after { IfOk result (λ next. IsAfter picture.now.columns self.new row next (Some pen)) }
-        ensures all { IfOk result (λ next. Continues profile.now self.old self.new (flat_map (row_paints painter picture.now (option_map (λ looks. looks.now) before.entry)) (filter (row_differs painter picture.now (option_map (λ looks. looks.now) before.entry)) (part_places column (next - column) row)))) }
+        ensures left { IfOk result (λ next. Some pen ≡ pen_before scene.now.painter scene.now.picture.now (option_map (λ looks. looks.now) line.now.before) line.now.row next) }
+        ensures after { IfOk result (λ next. IsAfter scene.now.picture.now.columns self.new line.now.row next (Some pen)) }
+        ensures all { IfOk result (λ next. Continues scene.now.profile.now self.old self.new (flat_map (row_paints scene.now.painter scene.now.picture.now (option_map (λ looks. looks.now) line.now.before)) (filter (row_differs scene.now.painter scene.now.picture.now (option_map (λ looks. looks.now) line.now.before)) (part_places column (next - column) line.now.row)))) }
     {
         run_laws();
         profiles_have();
-        let size = profile.size();
-        let _picture = picture.size();
-        let next = painter.unlike_end(picture, row, cells, before, column, end);
-        self.begin_unless(painter, profile, picture, row, column, left, pen)?;
-        self.count_each(row, column, next, size.columns);
+        let size = scene.profile.size();
+        let _picture = scene.picture.size();
+        let next = scene.unlike_end(line, column, end);
+        self.begin_unless(
+            scene,
+            &Target {
+                row: line.row,
+                column,
+                pen,
+            },
+            left,
+        )?;
+        self.count_each(line.row, column, next, size.columns);
         Ok(next)
     }
 
@@ -202,78 +193,73 @@ impl Joining {
     // it was painted with that pen.
     fn write(
         &mut self,
-        painter: Painter,
-        profile: &Profile,
-        picture: &Picture,
-        row: u32,
-        column: u32,
+        scene: &Scene<'_>,
+        to: &Target,
         left: Option<Pen>,
         byte: u8,
-        pen: Pen,
     ) -> Result<(), NoMemory>
-        requires painter { painter ≡ painter_of profile.now }
-        requires fits { Fits profile.now picture.now }
-        requires row { row < picture.now.rows }
-        requires column { column < picture.now.columns }
-        requires look { record { byte = byte; pen = pen } ≡ painter_look painter picture.now (row, column) }
+        requires scene { IsScene scene.now }
+        requires row { to.now.row < scene.now.picture.now.rows }
+        requires column { to.now.column < scene.now.picture.now.columns }
+        requires look { record { byte = byte; pen = to.now.pen } ≡ painter_look scene.now.painter scene.now.picture.now (to.now.row, to.now.column) }
         requires byte { IsCharacter byte }
-        requires after { IsAfter picture.now.columns self.old row column left }
-        ensures all { OnOk result (Continues profile.now self.old self.new (painter_writes painter left (row, column) (record { byte = byte; pen = pen }))) }
-        ensures after { OnOk result (IsAfter picture.now.columns self.new row (column + 1) (Some pen)) }
+        requires after { IsAfter scene.now.picture.now.columns self.old to.now.row to.now.column left }
+        ensures all { OnOk result (Continues scene.now.profile.now self.old self.new (painter_writes scene.now.painter left (to.now.row, to.now.column) (record { byte = byte; pen = to.now.pen }))) }
+        ensures after { OnOk result (IsAfter scene.now.picture.now.columns self.new to.now.row (to.now.column + 1) (Some to.now.pen)) }
     {
-        self.begin_unless(painter, profile, picture, row, column, left, pen)?;
-        self.put(profile, row, column, byte)
+        self.begin_unless(scene, to, left)?;
+        self.put(scene.profile, to.row, to.column, byte)
     }
 
     // Adds what leads to a place with the pen that is seen there, unless the place before it was
     // painted with that pen.
     fn begin_unless(
         &mut self,
-        painter: Painter,
-        profile: &Profile,
-        picture: &Picture,
-        row: u32,
-        column: u32,
+        scene: &Scene<'_>,
+        to: &Target,
         left: Option<Pen>,
-        pen: Pen,
     ) -> Result<(), NoMemory>
-        requires painter { painter ≡ painter_of profile.now }
-        requires fits { Fits profile.now picture.now }
-        requires row { row < picture.now.rows }
-        requires column { column < picture.now.columns }
-        requires pen { pen ≡ (painter_look painter picture.now (row, column)).pen }
-        requires after { IsAfter picture.now.columns self.old row column left }
-        ensures all { OnOk result (Continues profile.now self.old self.new (if is_that_pen left pen then [] else painter_begins painter (row, column) pen)) }
-        ensures spot { OnOk result (self.new.spot ≡ At row column) }
-        ensures pen { OnOk result (self.new.pen ≡ pen) }
+        requires scene { IsScene scene.now }
+        requires row { to.now.row < scene.now.picture.now.rows }
+        requires column { to.now.column < scene.now.picture.now.columns }
+        requires pen { to.now.pen ≡ (painter_look scene.now.painter scene.now.picture.now (to.now.row, to.now.column)).pen }
+        requires after { IsAfter scene.now.picture.now.columns self.old to.now.row to.now.column left }
+        ensures all { OnOk result (Continues scene.now.profile.now self.old self.new (if is_that_pen left to.now.pen then [] else painter_begins scene.now.painter (to.now.row, to.now.column) to.now.pen)) }
+        ensures spot { OnOk result (self.new.spot ≡ At to.now.row to.now.column) }
+        ensures pen { OnOk result (self.new.pen ≡ to.now.pen) }
     {
-        if is_that_pen(left, pen) {
+        if is_that_pen(left, to.pen) {
             return Ok(());
         }
-        self.begin(painter, profile, picture, row, column, pen)
+        self.begin(scene, to)
     }
 
     // Erases a row from a column on, where it is seen blank, after what leads there with a plain
     // pen, unless the place before was painted with a plain pen.
     fn erase_from(
         &mut self,
-        painter: Painter,
-        profile: &Profile,
-        picture: &Picture,
+        scene: &Scene<'_>,
         row: u32,
         column: u32,
         left: Option<Pen>,
     ) -> Result<(), NoMemory>
-        requires painter { painter ≡ painter_of profile.now }
-        requires fits { Fits profile.now picture.now }
-        requires row { row < picture.now.rows }
-        requires column { column < picture.now.columns }
-        requires look { painter_look painter picture.now (row, column) ≡ blank }
-        requires has { has profile.now EraseLine ≡ true }
-        requires after { IsAfter picture.now.columns self.old row column left }
-        ensures { OnOk result (Continues profile.now self.old self.new ((if is_that_pen left blank.pen then [] else painter_begins painter (row, column) blank.pen) ++ EraseLine ∷ [])) }
+        requires scene { IsScene scene.now }
+        requires row { row < scene.now.picture.now.rows }
+        requires column { column < scene.now.picture.now.columns }
+        requires look { painter_look scene.now.painter scene.now.picture.now (row, column) ≡ blank }
+        requires has { has scene.now.profile.now EraseLine ≡ true }
+        requires after { IsAfter scene.now.picture.now.columns self.old row column left }
+        ensures { OnOk result (Continues scene.now.profile.now self.old self.new ((if is_that_pen left blank.pen then [] else painter_begins scene.now.painter (row, column) blank.pen) ++ EraseLine ∷ [])) }
     {
-        self.begin_unless(painter, profile, picture, row, column, left, Pen::plain())?;
-        self.erase(profile, row, column)
+        self.begin_unless(
+            scene,
+            &Target {
+                row,
+                column,
+                pen: Pen::plain(),
+            },
+            left,
+        )?;
+        self.erase(scene.profile, row, column)
     }
 }

@@ -13,10 +13,12 @@ ghost use Rattle.scr_term.specs.Operations.Texts.{all_bytes, has};
 ghost use Rattle.scr_plan.specs.Code.Joinings.{Continues, IsCounted, IsJoining, counted_up};
 ghost use Rattle.scr_plan.specs.Code.Painters.{painter_begins, painter_leads, painter_of};
 ghost use Rattle.scr_plan.specs.Scratch.{Fits, look_at, places_cursor, resets};
+ghost use Rattle.scr_plan.specs.Code.Scenes.{IsScene};
 
-use crate::painting::Painter;
+use crate::scenes::Scene;
 use scr_cells::{NoMemory, Pen, Picture};
 use scr_memory::Memory;
+use scr_prices::Target;
 use scr_term::{Op, Profile, Spot, blank_laws, profiles_have, run_laws};
 
 // A joined repaint that is being made: where it leads so far, how many bytes it has, and its
@@ -49,26 +51,27 @@ impl Joining {
     // The beginning of a repaint of a terminal in the remembered state: attributes are turned off,
     // in default colours.
     pub(crate) fn on_remembered(
-        painter: Painter,
-        profile: &Profile,
+        scene: &Scene<'_>,
         memory: &Memory,
         ops: Vec<Op>,
         keeps: bool,
     ) -> Result<Joining, NoMemory>
-        requires painter { painter ≡ painter_of profile.now }
-        requires rows { memory.now.rows ≡ profile.now.rows }
-        requires columns { memory.now.columns ≡ profile.now.columns }
-        requires pen { (is_there profile.now Sgr0 ≡ true) ⊎ (is_plain_pen memory.now.state.pen ≡ true) }
-        ensures { IfOk result (IsJoining profile.now keeps ops.items memory.now.state (resets profile.now)) }
+        requires scene { IsScene scene.now }
+        requires rows { memory.now.rows ≡ scene.now.profile.now.rows }
+        requires columns { memory.now.columns ≡ scene.now.profile.now.columns }
+        requires pen { (is_there scene.now.profile.now Sgr0 ≡ true) ⊎ (is_plain_pen memory.now.state.pen ≡ true) }
+        ensures { IfOk result (IsJoining scene.now.profile.now keeps ops.items memory.now.state (resets scene.now.profile.now)) }
     {
         run_laws();
         profiles_have();
-        let _size = profile.size();
+        let _size = scene.profile.size();
         let _memory = memory.size();
         let mut ops = ops;
         let begun = ops.len();
-        painter.reset_unless_plain(memory.remembered_pen(), &mut ops)?;
-        let bytes = price_of(profile, &ops[begun..]);
+        scene
+            .painter
+            .reset_unless_plain(memory.remembered_pen(), &mut ops)?;
+        let bytes = price_of(scene.profile, &ops[begun..]);
         Ok(Joining {
             ops,
             keeps,
@@ -94,45 +97,36 @@ impl Joining {
     }
 
     // Turns attributes off and makes colours default.
-    pub(crate) fn reset(&mut self, painter: Painter, profile: &Profile) -> Result<(), NoMemory>
-        requires painter { painter ≡ painter_of profile.now }
-        ensures all { OnOk result (Continues profile.now self.old self.new (resets profile.now)) }
+    pub(crate) fn reset(&mut self, scene: &Scene<'_>) -> Result<(), NoMemory>
+        requires scene { IsScene scene.now }
+        ensures all { OnOk result (Continues scene.now.profile.now self.old self.new (resets scene.now.profile.now)) }
         ensures pen { OnOk result (self.new.pen ≡ plain_pen) }
     {
         run_laws();
         profiles_have();
-        let _size = profile.size();
+        let _size = scene.profile.size();
         let begun = self.ops.len();
-        painter.reset_unless_plain(self.pen, &mut self.ops)?;
-        self.count(profile, begun, self.spot, Pen::plain());
+        scene.painter.reset_unless_plain(self.pen, &mut self.ops)?;
+        self.count(scene.profile, begun, self.spot, Pen::plain());
         Ok(())
     }
 
     // Leads to a place, and to the pen with which the picture is seen there.
-    pub(crate) fn begin(
-        &mut self,
-        painter: Painter,
-        profile: &Profile,
-        picture: &Picture,
-        row: u32,
-        column: u32,
-        pen: Pen,
-    ) -> Result<(), NoMemory>
-        requires painter { painter ≡ painter_of profile.now }
-        requires fits { Fits profile.now picture.now }
-        requires place { IsPlace profile.now.rows profile.now.columns (row, column) }
-        requires pen { pen ≡ (look_at profile.now picture.now (row, column)).pen }
-        ensures all { OnOk result (Continues profile.now self.old self.new (painter_begins painter (row, column) pen)) }
-        ensures spot { OnOk result (self.new.spot ≡ At row column) }
-        ensures pen { OnOk result (self.new.pen ≡ pen) }
+    pub(crate) fn begin(&mut self, scene: &Scene<'_>, to: &Target) -> Result<(), NoMemory>
+        requires scene { IsScene scene.now }
+        requires place { IsPlace scene.now.profile.now.rows scene.now.profile.now.columns (to.now.row, to.now.column) }
+        requires pen { to.now.pen ≡ (look_at scene.now.profile.now scene.now.picture.now (to.now.row, to.now.column)).pen }
+        ensures all { OnOk result (Continues scene.now.profile.now self.old self.new (painter_begins scene.now.painter (to.now.row, to.now.column) to.now.pen)) }
+        ensures spot { OnOk result (self.new.spot ≡ At to.now.row to.now.column) }
+        ensures pen { OnOk result (self.new.pen ≡ to.now.pen) }
     {
         run_laws();
         profiles_have();
-        let _size = profile.size();
-        let _picture = picture.size();
+        let _size = scene.profile.size();
+        let _picture = scene.picture.size();
         let begun = self.ops.len();
-        painter.lead(self.spot, self.pen, row, column, pen, &mut self.ops)?;
-        self.count(profile, begun, Spot::At(row, column), pen);
+        scene.painter.lead(self.spot, self.pen, to, &mut self.ops)?;
+        self.count(scene.profile, begun, Spot::At(to.row, to.column), to.pen);
         Ok(())
     }
 
@@ -193,23 +187,24 @@ impl Joining {
     // Moves the cursor to where it is wanted, with no attribute and default colours.
     pub(crate) fn place_cursor(
         &mut self,
-        painter: Painter,
-        profile: &Profile,
+        scene: &Scene<'_>,
         wish: Option<(u32, u32)>,
     ) -> Result<(), NoMemory>
         requires plain { is_plain_pen self.old.pen ≡ true }
-        requires wish { IfSome wish (IsPlace profile.now.rows profile.now.columns) }
-        ensures { OnOk result (Continues profile.now self.old self.new (places_cursor wish)) }
+        requires wish { IfSome wish (IsPlace scene.now.profile.now.rows scene.now.profile.now.columns) }
+        ensures { OnOk result (Continues scene.now.profile.now self.old self.new (places_cursor wish)) }
     {
         let Some((row, column)) = wish else {
             return Ok(());
         };
         run_laws();
         profiles_have();
-        let _size = profile.size();
+        let _size = scene.profile.size();
         let begun = self.ops.len();
-        painter.move_unless_there(self.spot, row, column, &mut self.ops)?;
-        self.count(profile, begun, Spot::At(row, column), self.pen);
+        scene
+            .painter
+            .move_unless_there(self.spot, row, column, &mut self.ops)?;
+        self.count(scene.profile, begun, Spot::At(row, column), self.pen);
         Ok(())
     }
 }

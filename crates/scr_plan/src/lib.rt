@@ -15,6 +15,7 @@ mod planning;
 mod priced_rows;
 mod reaching;
 mod runs;
+mod scenes;
 mod scratch_laws;
 mod scratch_texts;
 mod settling;

@@ -11,74 +11,54 @@ ghost use Rattle.scr_plan.specs.Code.Looking.{IsRest};
 ghost use Rattle.scr_plan.specs.Code.Painters.{is_that_pen, painter_look, painter_of, painter_sees, row_differs, shown_in};
 ghost use Rattle.scr_memory.specs.Memories.{MemoryView};
 ghost use Rattle.scr_plan.specs.Repaints.{erased_column, look_eq};
+ghost use Rattle.scr_plan.specs.Code.Scenes.{IsLine, IsScene};
 
-use crate::painting::Painter;
+use crate::scenes::{Line, Scene};
 use scr_cells::{Cell, Look, Pen, Picture, alike_before, shown_before, unshown_before};
 use scr_term::{Op, Profile};
 
-impl Painter {
+impl Scene<'_> {
     // What is seen of a row's cell: its byte, and the pen that it is written with.
     #[inline(always)]
-    pub(crate) fn seen_in(self, picture: &Picture, cells: &[Cell], column: u32) -> (u8, Pen)
+    pub(crate) fn seen_in(&self, cells: &[Cell], column: u32) -> (u8, Pen)
         requires { column < length cells.now }
-        ensures byte { result.0 ≡ (painter_sees self picture.now.pairs (slice_index_or cells.now column blank_cell)).byte }
-        ensures pen { result.1 ≡ (painter_sees self picture.now.pairs (slice_index_or cells.now column blank_cell)).pen }
+        ensures byte { result.0 ≡ (painter_sees self.now.painter self.now.picture.now.pairs (slice_index_or cells.now column blank_cell)).byte }
+        ensures pen { result.1 ≡ (painter_sees self.now.painter self.now.picture.now.pairs (slice_index_or cells.now column blank_cell)).pen }
     {
         let cell = cell_in(cells, column);
-        (cell.byte(), self.pen_of(picture, cell))
+        (cell.byte(), self.painter.pen_of(self.picture, cell))
     }
 
     // The column from which the joined repaint erases the rest of a row, if it does. Only columns
     // `from..end` can differ.
-    pub(crate) fn erased_column(
-        self,
-        profile: &Profile,
-        picture: &Picture,
-        row: u32,
-        cells: &[Cell],
-        before: Option<&[Look]>,
-        from: u32,
-        end: u32,
-    ) -> Option<u32>
-        requires painter { self ≡ painter_of profile.now }
-        requires cells { cells.now ≡ grid_row picture.now.lines row }
-        requires wide { length cells.now ≡ picture.now.columns }
-        requires width { IfSome before (λ looks. length looks.now ≡ picture.now.columns) }
+    pub(crate) fn erased_column(&self, line: &Line<'_>, from: u32, end: u32) -> Option<u32>
+        requires scene { IsScene self.now }
+        requires line { IsLine self.now.picture.now line.now }
         requires from { from ≤ end }
-        requires end { end ≤ picture.now.columns }
-        requires outside { (c : ℕ) → (c < from) ⊎ (end ≤ c) → c < picture.now.columns → row_differs self picture.now (option_map (λ looks. looks.now) before) (row, c) ≡ false }
+        requires end { end ≤ self.now.picture.now.columns }
+        requires outside { (c : ℕ) → (c < from) ⊎ (end ≤ c) → c < self.now.picture.now.columns → row_differs self.now.painter self.now.picture.now (option_map (λ looks. looks.now) line.now.before) (line.now.row, c) ≡ false }
         ensures inside { IfSome result (λ column. (from ≤ column) × (column < end)) }
-        ensures blank { IfSome result (λ column. painter_look self picture.now (row, column) ≡ blank) }
-        ensures has { IfSome result (λ column. has profile.now EraseLine ≡ true) }
-        ensures value { (memory : MemoryView) → ShowsRow memory row (option_map (λ looks. looks.now) before.entry) → result ≡ erased_column profile.now picture.now memory row }
+        ensures blank { IfSome result (λ column. painter_look self.now.painter self.now.picture.now (line.now.row, column) ≡ blank) }
+        ensures has { IfSome result (λ column. has self.now.profile.now EraseLine ≡ true) }
+        ensures value { (memory : MemoryView) → ShowsRow memory line.now.row (option_map (λ looks. looks.now) line.now.before) → result ≡ erased_column self.now.profile.now self.now.picture.now memory line.now.row }
     {
-        let rest = self.blank_rest(picture, row, cells, before, from, end);
+        let rest = self.blank_rest(line, from, end);
         let column = rest.first?;
-        let price = profile.cost(Op::EraseLine)?;
-        if (rest.count as usize) < price || !self.is_blank_from(picture, row, cells, end) {
+        let price = self.profile.cost(Op::EraseLine)?;
+        if (rest.count as usize) < price || !self.is_blank_from(line.row, line.cells, end) {
             return None;
         }
         Some(column)
     }
 
     // The blanks at the end of a part of a row: the first that differs, and how many differ.
-    pub(crate) fn blank_rest(
-        self,
-        picture: &Picture,
-        row: u32,
-        cells: &[Cell],
-        before: Option<&[Look]>,
-        from: u32,
-        end: u32,
-    ) -> Rest
-        requires cells { cells.now ≡ grid_row picture.now.lines row }
-        requires wide { length cells.now ≡ picture.now.columns }
-        requires width { IfSome before (λ looks. length looks.now ≡ picture.now.columns) }
+    pub(crate) fn blank_rest(&self, line: &Line<'_>, from: u32, end: u32) -> Rest
+        requires line { IsLine self.now.picture.now line.now }
         requires from { from ≤ end }
-        requires end { end ≤ picture.now.columns }
-        ensures { IsRest self picture.now row (option_map (λ looks. looks.now) before.entry) from end result }
+        requires end { end ≤ self.now.picture.now.columns }
+        ensures { IsRest self.now.painter self.now.picture.now line.now.row (option_map (λ looks. looks.now) line.now.before) from end result }
     {
-        let _size = picture.size();
+        let _size = self.picture.size();
         let mut rest = Rest {
             begin: end,
             first: None,
@@ -86,49 +66,36 @@ impl Painter {
             count: 0,
         };
         while rest.begin > from {
-            let (byte, pen) = self.seen_in(picture, cells, rest.begin - 1);
+            let (byte, pen) = self.seen_in(line.cells, rest.begin - 1);
             if !is_blank(byte, pen) {
                 return rest;
             }
-            rest = rest.with_blank(before, byte, pen);
+            rest = rest.with_blank(line.before, byte, pen);
         }
         rest
     }
 
     // Whether a row is seen blank from a column on.
-    pub(crate) fn is_blank_from(
-        self,
-        picture: &Picture,
-        row: u32,
-        cells: &[Cell],
-        from: u32,
-    ) -> bool
-        requires cells { cells.now ≡ grid_row picture.now.lines row }
-        requires wide { length cells.now ≡ picture.now.columns }
-        ensures all { result ≡ true → (c : ℕ) → from ≤ c → c < picture.now.columns → look_eq (painter_look self picture.now (row, c)) blank ≡ true }
-        ensures none { result ≡ false → (c : ℕ) × (from ≤ c) × (c < picture.now.columns) × (look_eq (painter_look self picture.now (row, c)) blank ≡ false) }
+    pub(crate) fn is_blank_from(&self, row: u32, cells: &[Cell], from: u32) -> bool
+        requires cells { cells.now ≡ grid_row self.now.picture.now.lines row }
+        requires wide { length cells.now ≡ self.now.picture.now.columns }
+        ensures all { result ≡ true → (c : ℕ) → from ≤ c → c < self.now.picture.now.columns → look_eq (painter_look self.now.painter self.now.picture.now (row, c)) blank ≡ true }
+        ensures none { result ≡ false → (c : ℕ) × (from ≤ c) × (c < self.now.picture.now.columns) × (look_eq (painter_look self.now.painter self.now.picture.now (row, c)) blank ≡ false) }
     {
-        let size = picture.size();
-        self.is_blank(picture, row, cells, from, size.columns)
+        let size = self.picture.size();
+        self.is_blank(row, cells, from, size.columns)
     }
 
     // Whether a row is seen blank in columns `from..end`.
-    pub(crate) fn is_blank(
-        self,
-        picture: &Picture,
-        row: u32,
-        cells: &[Cell],
-        from: u32,
-        end: u32,
-    ) -> bool
-        requires cells { cells.now ≡ grid_row picture.now.lines row }
-        requires wide { length cells.now ≡ picture.now.columns }
-        requires end { end ≤ picture.now.columns }
-        ensures all { result ≡ true → (c : ℕ) → from ≤ c → c < end → look_eq (painter_look self picture.now (row, c)) blank ≡ true }
-        ensures none { result ≡ false → (c : ℕ) × (from ≤ c) × (c < end) × (look_eq (painter_look self picture.now (row, c)) blank ≡ false) }
+    pub(crate) fn is_blank(&self, row: u32, cells: &[Cell], from: u32, end: u32) -> bool
+        requires cells { cells.now ≡ grid_row self.now.picture.now.lines row }
+        requires wide { length cells.now ≡ self.now.picture.now.columns }
+        requires end { end ≤ self.now.picture.now.columns }
+        ensures all { result ≡ true → (c : ℕ) → from ≤ c → c < end → look_eq (painter_look self.now.painter self.now.picture.now (row, c)) blank ≡ true }
+        ensures none { result ≡ false → (c : ℕ) × (from ≤ c) × (c < end) × (look_eq (painter_look self.now.painter self.now.picture.now (row, c)) blank ≡ false) }
     {
         for column in from..end {
-            let (byte, pen) = self.seen_in(picture, cells, column);
+            let (byte, pen) = self.seen_in(cells, column);
             if !is_blank(byte, pen) {
                 return false;
             }
@@ -138,28 +105,18 @@ impl Painter {
 
     // The first column in `from..end` in which the row does not show what is seen of its cell;
     // `end` if there is none.
-    pub(crate) fn unlike_from(
-        self,
-        picture: &Picture,
-        row: u32,
-        cells: &[Cell],
-        before: Option<&[Look]>,
-        from: u32,
-        end: u32,
-    ) -> u32
-        requires cells { cells.now ≡ grid_row picture.now.lines row }
-        requires wide { length cells.now ≡ picture.now.columns }
-        requires width { IfSome before (λ looks. length looks.now ≡ picture.now.columns) }
+    pub(crate) fn unlike_from(&self, line: &Line<'_>, from: u32, end: u32) -> u32
+        requires line { IsLine self.now.picture.now line.now }
         requires from { from ≤ end }
-        requires end { end ≤ picture.now.columns }
+        requires end { end ≤ self.now.picture.now.columns }
         ensures from { from ≤ result }
         ensures end { result ≤ end }
-        ensures same { (c : ℕ) → from ≤ c → c < result → row_differs self picture.now (option_map (λ looks. looks.now) before.entry) (row, c) ≡ false }
-        ensures unlike { result < end → row_differs self picture.now (option_map (λ looks. looks.now) before.entry) (row, result) ≡ true }
+        ensures same { (c : ℕ) → from ≤ c → c < result → row_differs self.now.painter self.now.picture.now (option_map (λ looks. looks.now) line.now.before) (line.now.row, c) ≡ false }
+        ensures unlike { result < end → row_differs self.now.painter self.now.picture.now (option_map (λ looks. looks.now) line.now.before) (line.now.row, result) ≡ true }
     {
-        for column in from + self.shown_by_eight(cells, before, from, end)..end {
-            let (byte, pen) = self.seen_in(picture, cells, column);
-            if !is_shown_in(before, column, byte, pen) {
+        for column in from + self.shown_by_eight(line, from, end)..end {
+            let (byte, pen) = self.seen_in(line.cells, column);
+            if !is_shown_in(line.before, column, byte, pen) {
                 return column;
             }
         }
@@ -168,34 +125,24 @@ impl Painter {
 
     // The first column after `column` in which the row shows what is seen of its cell, or whose
     // cell has other attributes or another colour pair; `end` if there is none before it.
-    pub(crate) fn unlike_end(
-        self,
-        picture: &Picture,
-        row: u32,
-        cells: &[Cell],
-        before: Option<&[Look]>,
-        column: u32,
-        end: u32,
-    ) -> u32
-        requires cells { cells.now ≡ grid_row picture.now.lines row }
-        requires wide { length cells.now ≡ picture.now.columns }
-        requires width { IfSome before (λ looks. length looks.now ≡ picture.now.columns) }
+    pub(crate) fn unlike_end(&self, line: &Line<'_>, column: u32, end: u32) -> u32
+        requires line { IsLine self.now.picture.now line.now }
         requires column { column < end }
-        requires end { end ≤ picture.now.columns }
+        requires end { end ≤ self.now.picture.now.columns }
         ensures more { column < result }
         ensures end { result ≤ end }
-        ensures unlike { row_differs self picture.now (option_map (λ looks. looks.now) before.entry) (row, column) ≡ true → (c : ℕ) → column ≤ c → c < result → row_differs self picture.now (option_map (λ looks. looks.now) before.entry) (row, c) ≡ true }
-        ensures alike { (c : ℕ) → column ≤ c → c < result → (painter_look self picture.now (row, c)).pen ≡ (painter_look self picture.now (row, column)).pen }
+        ensures unlike { row_differs self.now.painter self.now.picture.now (option_map (λ looks. looks.now) line.now.before) (line.now.row, column) ≡ true → (c : ℕ) → column ≤ c → c < result → row_differs self.now.painter self.now.picture.now (option_map (λ looks. looks.now) line.now.before) (line.now.row, c) ≡ true }
+        ensures alike { (c : ℕ) → column ≤ c → c < result → (painter_look self.now.painter self.now.picture.now (line.now.row, c)).pen ≡ (painter_look self.now.painter self.now.picture.now (line.now.row, column)).pen }
     {
-        let first = cell_in(cells, column);
-        let pen = self.pen_of(picture, first);
+        let first = cell_in(line.cells, column);
+        let pen = self.painter.pen_of(self.picture, first);
         let second = column + 1;
-        if second >= end || self.ends(cells, before, first, second, pen) {
+        if second >= end || self.ends(line, first, second, pen) {
             return second;
         }
-        let begun = column + self.unlike_by_eight(cells, before, column, end).max(1);
+        let begun = column + self.unlike_by_eight(line, column, end).max(1);
         for next in begun..end {
-            if self.ends(cells, before, first, next, pen) {
+            if self.ends(line, first, next, pen) {
                 return next;
             }
         }
@@ -205,35 +152,28 @@ impl Painter {
     // Whether a place shows what is seen of its cell with a pen, or its cell has other attributes
     // or another colour pair than `first`.
     #[inline(always)]
-    fn ends(
-        self,
-        cells: &[Cell],
-        before: Option<&[Look]>,
-        first: Cell,
-        column: u32,
-        pen: Pen,
-    ) -> bool
-        requires column { column < length cells.now }
-        requires width { IfSome before (λ looks. column < length looks.now) }
-        ensures attrs { result ≡ false → first.attrs ≡ (slice_index_or cells.now column blank_cell).attrs }
-        ensures pair { result ≡ false → first.pair ≡ (slice_index_or cells.now column blank_cell).pair }
-        ensures unlike { result ≡ false → look_eq (shown_in (option_map (λ looks. looks.now) before.entry) column) (record { byte = (slice_index_or cells.now column blank_cell).byte; pen = pen }) ≡ false }
+    fn ends(&self, line: &Line<'_>, first: Cell, column: u32, pen: Pen) -> bool
+        requires column { column < length line.now.cells.now }
+        requires width { IfSome line.now.before (λ looks. column < length looks.now) }
+        ensures attrs { result ≡ false → first.attrs ≡ (slice_index_or line.now.cells.now column blank_cell).attrs }
+        ensures pair { result ≡ false → first.pair ≡ (slice_index_or line.now.cells.now column blank_cell).pair }
+        ensures unlike { result ≡ false → look_eq (shown_in (option_map (λ looks. looks.now) line.now.before) column) (record { byte = (slice_index_or line.now.cells.now column blank_cell).byte; pen = pen }) ≡ false }
     {
-        let cell = cell_in(cells, column);
-        !are_alike(first, cell) || is_shown_in(before, column, cell.byte(), pen)
+        let cell = cell_in(line.cells, column);
+        !are_alike(first, cell) || is_shown_in(line.before, column, cell.byte(), pen)
     }
 
     // The first column after `column` whose cell has other attributes or another colour pair; `end`
     // if there is none before it.
-    pub(crate) fn alike_end(self, picture: &Picture, cells: &[Cell], column: u32, end: u32) -> u32
+    pub(crate) fn alike_end(&self, cells: &[Cell], column: u32, end: u32) -> u32
         requires column { column < end }
         requires wide { end ≤ length cells.now }
         ensures more { column < result }
         ensures end { result ≤ end }
         ensures alike { (c : ℕ) → column ≤ c → c < result
-            → (painter_sees self picture.now.pairs (slice_index_or cells.now c blank_cell)).pen ≡ (painter_sees self picture.now.pairs (slice_index_or cells.now column blank_cell)).pen }
+            → (painter_sees self.now.painter self.now.picture.now.pairs (slice_index_or cells.now c blank_cell)).pen ≡ (painter_sees self.now.painter self.now.picture.now.pairs (slice_index_or cells.now column blank_cell)).pen }
     {
-        let _size = picture.size();
+        let _size = self.picture.size();
         if column + 1 >= end {
             return end;
         }
@@ -250,19 +190,23 @@ impl Painter {
     // How many places from a column on do not show what is seen of their cells, all with the
     // attributes and pair of the first. They are looked at eight at a time, so the count may be too
     // low.
-    fn unlike_by_eight(self, cells: &[Cell], before: Option<&[Look]>, from: u32, end: u32) -> u32
-        requires width { IfSome before (λ looks. length looks.now ≡ length cells.now) }
+    fn unlike_by_eight(&self, line: &Line<'_>, from: u32, end: u32) -> u32
+        requires width { IfSome line.now.before (λ looks. length looks.now ≡ length line.now.cells.now) }
         requires from { from ≤ end }
-        requires end { end ≤ length cells.now }
+        requires end { end ≤ length line.now.cells.now }
         ensures end { from + result ≤ end }
         ensures unlike { (c : ℕ) → from ≤ c → c < from + result → (pairs : List (Option ℕ × Option ℕ))
-            → shown_in (option_map (λ looks. looks.now) before.entry) c ≢ painter_sees self pairs (slice_index_or cells.now c blank_cell) }
-        ensures alike { (c : ℕ) → from ≤ c → c < from + result → HasRendition (slice_index_or cells.now from blank_cell) cells.now c }
+            → shown_in (option_map (λ looks. looks.now) line.now.before) c ≢ painter_sees self.now.painter pairs (slice_index_or line.now.cells.now c blank_cell) }
+        ensures alike { (c : ℕ) → from ≤ c → c < from + result → HasRendition (slice_index_or line.now.cells.now from blank_cell) line.now.cells.now c }
     {
-        match before {
+        match line.before {
             Some(looks) => {
                 let looks = &looks[from as usize..end as usize];
-                unshown_before(looks, &cells[from as usize..end as usize], self.shown) as u32
+                unshown_before(
+                    looks,
+                    &line.cells[from as usize..end as usize],
+                    self.painter.shown,
+                ) as u32
             }
             None => 0,
         }
@@ -270,18 +214,22 @@ impl Painter {
 
     // How many places from a column on show what is seen of their cells. They are looked at eight
     // at a time, so the count may be too low.
-    fn shown_by_eight(self, cells: &[Cell], before: Option<&[Look]>, from: u32, end: u32) -> u32
-        requires width { IfSome before (λ looks. length looks.now ≡ length cells.now) }
+    fn shown_by_eight(&self, line: &Line<'_>, from: u32, end: u32) -> u32
+        requires width { IfSome line.now.before (λ looks. length looks.now ≡ length line.now.cells.now) }
         requires from { from ≤ end }
-        requires end { end ≤ length cells.now }
+        requires end { end ≤ length line.now.cells.now }
         ensures end { from + result ≤ end }
         ensures same { (c : ℕ) → from ≤ c → c < from + result → (pairs : List (Option ℕ × Option ℕ))
-            → shown_in (option_map (λ looks. looks.now) before.entry) c ≡ painter_sees self pairs (slice_index_or cells.now c blank_cell) }
+            → shown_in (option_map (λ looks. looks.now) line.now.before) c ≡ painter_sees self.now.painter pairs (slice_index_or line.now.cells.now c blank_cell) }
     {
-        match before {
+        match line.before {
             Some(looks) => {
                 let looks = &looks[from as usize..end as usize];
-                shown_before(looks, &cells[from as usize..end as usize], self.shown) as u32
+                shown_before(
+                    looks,
+                    &line.cells[from as usize..end as usize],
+                    self.painter.shown,
+                ) as u32
             }
             None => 0,
         }

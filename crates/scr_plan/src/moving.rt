@@ -10,9 +10,10 @@ ghost use Rattle.scr_plan.specs.Repaints.{IsSizeOf, ShowsOutside};
 ghost use Rattle.scr_plan.specs.Scratch.{Fits};
 ghost use Rattle.scr_term.specs.Operations.Profiles.{abilities};
 ghost use Rattle.scr_term.specs.Operations.States.{IsShownPen};
+ghost use Rattle.scr_plan.specs.Code.Scenes.{IsUpdate};
 
 use crate::looked::Looked;
-use crate::painting::Painter;
+use crate::scenes::Update;
 use crate::settling::first_to_look;
 use crate::strokes::Draft;
 use scr_cells::{Look, NoMemory, grid_laws};
@@ -28,30 +29,21 @@ impl Draft {
     pub(crate) fn move_what_stays(
         &mut self,
         alloc: Global,
-        painter: Painter,
-        profile: &Profile,
-        memory: &Memory,
-        wanted: &Virtual,
-        by: Looked,
+        update: &Update<'_>,
         runs: &mut Vec<Run>,
     ) -> Result<(), NoMemory>
-        requires painter { painter ≡ painter_of profile.now }
-        requires fits { Fits profile.now wanted.now.picture }
-        requires size { IsSizeOf wanted.now.picture memory.now }
-        requires same { ShowsOutside (range_by by) profile.now memory.now wanted.now }
-        requires known { is_known memory.now ≡ true }
-        requires pen { IsShownPen (abilities profile.now) memory.now.state.pen }
-        requires begun { IsBegun memory.now self.old }
-        ensures { OnOk result (IsMoved profile.now wanted.now.picture memory.now.state (in_runs runs.new.items) self.new) }
+        requires update { IsUpdate update.now }
+        requires known { is_known update.now.memory.now ≡ true }
+        requires pen { IsShownPen (abilities update.now.scene.profile.now) update.now.memory.now.state.pen }
+        requires begun { IsBegun update.now.memory.now self.old }
+        ensures { OnOk result (IsMoved update.now.scene.profile.now update.now.wanted.now.picture update.now.memory.now.state (in_runs runs.new.items) self.new) }
     {
         grid_laws::<Look>();
-        let _profile = profile.size();
-        let _memory = memory.size();
-        let shift = self.shift_if_worth(alloc, painter, profile, memory, wanted, by)?;
+        let _profile = update.scene.profile.size();
+        let _memory = update.memory.size();
+        let shift = self.shift_if_worth(alloc, update)?;
         let mut room = Vec::new(alloc);
-        let from = first_to_look(wanted, by, shift);
-        self.settle_from(
-            painter, profile, memory, wanted, by, shift, from, runs, &mut room,
-        )
+        let from = first_to_look(update.wanted, update.by, shift);
+        self.settle_from(update, shift, from, runs, &mut room)
     }
 }

@@ -8,6 +8,7 @@ ghost use Rattle.scr_plan.specs.Scratch.{scratch_of, row_places, renders, enter,
 ghost use Rattle.scr_plan.specs.Code.Painters.{moves_unless_there, painter_goes, painter_leads, painter_of, painter_paints, painter_paints_place, painter_resets, painter_sees, resets_unless_plain};
 
 use scr_cells::{Attrs, Cell, Look, NoMemory, Pen, Picture};
+use scr_prices::Target;
 use scr_term::{Op, Ops, Profile, Spot};
 use std::alloc::Global;
 
@@ -70,7 +71,7 @@ impl Painter {
     {
         let cells = picture.row(row);
         for column in 0..picture.size().columns {
-            self.paint_cell(picture, row, column, cells[column as usize], ops)?;
+            self.paint_cell(picture, (row, column), cells[column as usize], ops)?;
         }
         Ok(())
     }
@@ -79,32 +80,32 @@ impl Painter {
     pub(crate) fn paint_cell(
         self,
         picture: &Picture,
-        row: u32,
-        column: u32,
+        place: (u32, u32),
         cell: Cell,
         ops: &mut Vec<Op>,
     ) -> Result<(), NoMemory>
-        ensures { OnOk result (ops.new.items ≡ ops.old.items ++ painter_paints self picture.now.pairs (row, column) cell) }
+        ensures { OnOk result (ops.new.items ≡ ops.old.items ++ painter_paints self picture.now.pairs place cell) }
     {
-        self.begin(row, column, self.pen_of(picture, cell), ops)?;
+        self.begin(
+            &Target {
+                row: place.0,
+                column: place.1,
+                pen: self.pen_of(picture, cell),
+            },
+            ops,
+        )?;
         ops.push(Op::Put(cell.byte()))?;
         Ok(())
     }
 
     // Adds what leads to a place with a pen.
     #[inline(always)]
-    pub(crate) fn begin(
-        self,
-        row: u32,
-        column: u32,
-        pen: Pen,
-        ops: &mut Vec<Op>,
-    ) -> Result<(), NoMemory>
-        ensures { OnOk result (ops.new.items ≡ ops.old.items ++ painter_goes self (row, column) ++ renders pen) }
+    pub(crate) fn begin(self, to: &Target, ops: &mut Vec<Op>) -> Result<(), NoMemory>
+        ensures { OnOk result (ops.new.items ≡ ops.old.items ++ painter_goes self (to.now.row, to.now.column) ++ renders to.now.pen) }
     {
-        self.go(row, column, ops)?;
-        enter_each(pen.attrs().0, ops)?;
-        set_colours(pen.foreground(), pen.background(), ops)
+        self.go(to.row, to.column, ops)?;
+        enter_each(to.pen.attrs().0, ops)?;
+        set_colours(to.pen.foreground(), to.pen.background(), ops)
     }
 
     // Adds what leads to a place with a pen from a known spot and pen, without what would change
@@ -113,23 +114,21 @@ impl Painter {
         self,
         spot: Spot,
         now: Pen,
-        row: u32,
-        column: u32,
-        pen: Pen,
+        to: &Target,
         ops: &mut Vec<Op>,
     ) -> Result<(), NoMemory>
-        ensures { OnOk result (ops.new.items ≡ ops.old.items ++ painter_leads self spot now (row, column) pen) }
+        ensures { OnOk result (ops.new.items ≡ ops.old.items ++ painter_leads self spot now (to.now.row, to.now.column) to.now.pen) }
     {
         let moves_first = self.moves_in_any_rendition;
         if moves_first {
-            self.move_unless_there(spot, row, column, ops)?;
+            self.move_unless_there(spot, to.row, to.column, ops)?;
             self.reset_unless_plain(now, ops)?;
         } else {
             self.reset_unless_plain(now, ops)?;
-            self.move_unless_there(spot, row, column, ops)?;
+            self.move_unless_there(spot, to.row, to.column, ops)?;
         }
-        enter_each(pen.attrs().0, ops)?;
-        set_colours(pen.foreground(), pen.background(), ops)
+        enter_each(to.pen.attrs().0, ops)?;
+        set_colours(to.pen.foreground(), to.pen.background(), ops)
     }
 
     // Adds what moves the cursor to a place, unless it is there.
@@ -163,20 +162,19 @@ impl Painter {
     pub(crate) fn paint_unless_shown(
         self,
         picture: &Picture,
-        row: u32,
-        column: u32,
+        place: (u32, u32),
         cell: Cell,
         known: bool,
         look: Look,
         ops: &mut Vec<Op>,
     ) -> Result<(), NoMemory>
         ensures { OnOk result (ops.new.items
-            ≡ ops.old.items ++ (if known && look_eq look (painter_sees self picture.now.pairs cell) then [] else painter_paints self picture.now.pairs (row, column) cell)) }
+            ≡ ops.old.items ++ (if known && look_eq look (painter_sees self picture.now.pairs cell) then [] else painter_paints self picture.now.pairs place cell)) }
     {
         if known && self.is_seen(picture, look, cell) {
             return Ok(());
         }
-        self.paint_cell(picture, row, column, cell, ops)
+        self.paint_cell(picture, place, cell, ops)
     }
 
     // Whether a look is what is seen of a cell. Pens are compared as a whole, since most places

@@ -60,7 +60,7 @@ impl Painter {
         for column in 0..picture.size().columns {
             let look = looks[column as usize];
             let cell = cells[column as usize];
-            self.paint_unless_shown(picture, row, column, cell, known, look, ops)?;
+            self.paint_unless_shown(picture, (row, column), cell, known, look, ops)?;
         }
         Ok(())
     }

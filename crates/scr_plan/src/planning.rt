@@ -14,12 +14,14 @@ ghost use Rattle.scr_memory.specs.Memories.{is_known, is_placed};
 ghost use Rattle.scr_plan.specs.Plans.{IsPlan};
 ghost use Rattle.scr_plan.specs.Repaints.{IsSizeOf, IsUpToDate, ShowsOutside, anew_of, differing, is_none_left, joined_of};
 ghost use Rattle.scr_plan.specs.Scratch.{Fits};
+ghost use Rattle.scr_plan.specs.Code.Scenes.{IsScene, IsUpdate};
 
 use crate::joined_changes::differs;
 use crate::joining::{Joining, price_of};
 use crate::looked::Looked;
 use crate::painting::Painter;
 use crate::plan_laws::{joined_is_cheap, plans_are_made, plans_are_remembered};
+use crate::scenes::{Scene, Update};
 use crate::short_plan::{short_anew, short_changes};
 use crate::unknown_rows::short_partly;
 use scr_cells::{Look, NoMemory, Pen, Picture, Size, grid_laws};
@@ -87,29 +89,35 @@ fn plan_by(
     let _profile = profile.size();
     let _wanted = wanted.size();
     let _memory = memory.size();
+    let scene = Scene {
+        painter: Painter::of(profile),
+        profile,
+        picture: wanted.picture(),
+    };
+    let update = Update {
+        scene,
+        memory,
+        wanted,
+        by,
+    };
     if !wants_changes_alone(memory, wanted) {
-        return anew_or_partly(alloc, profile, memory, wanted, by);
+        return anew_or_partly(alloc, &update);
     }
     if !may_be(profile, memory) {
-        return nothing(alloc, profile, memory, wanted);
+        return nothing(alloc, &update);
     }
-    changes(alloc, profile, memory, wanted, by)
+    changes(alloc, &update)
 }
 
 // No operations, where all is known and no terminal of the profile can have the remembered pen.
-fn nothing(
-    alloc: Global,
-    profile: &Profile,
-    memory: &Memory,
-    wanted: &Virtual,
-) -> Result<Ops, NoMemory>
-    requires due { (is_known memory.now && not wanted.now.repaint) ≡ true }
-    requires pen { IsShownPen (abilities profile.now) memory.now.state.pen → ⊥ }
-    ensures { IfOk result (IsPlan profile.now memory.now wanted.now) }
+fn nothing(alloc: Global, update: &Update<'_>) -> Result<Ops, NoMemory>
+    requires due { (is_known update.now.memory.now && not update.now.wanted.now.repaint) ≡ true }
+    requires pen { IsShownPen (abilities update.now.scene.profile.now) update.now.memory.now.state.pen → ⊥ }
+    ensures { IfOk result (IsPlan update.now.scene.profile.now update.now.memory.now update.now.wanted.now) }
 {
-    let _profile = profile.size();
-    let _memory = memory.size();
-    let _wanted = wanted.size();
+    let _profile = update.scene.profile.size();
+    let _memory = update.memory.size();
+    let _wanted = update.wanted.size();
     Ok(Ops(Vec::new(alloc)))
 }
 
@@ -149,73 +157,49 @@ fn shows_colours(profile: &Profile, pen: Pen) -> bool
 
 // The plan if not all is known, or the whole screen is to be painted anew.
 #[inline(never)]
-fn anew_or_partly(
-    alloc: Global,
-    profile: &Profile,
-    memory: &Memory,
-    wanted: &Virtual,
-    by: Looked,
-) -> Result<Ops, NoMemory>
-    requires fits { Fits profile.now wanted.now.picture }
-    requires size { IsSizeOf wanted.now.picture memory.now }
-    requires same { ShowsOutside (range_by by) profile.now memory.now wanted.now }
-    requires due { (is_known memory.now && not wanted.now.repaint) ≡ false }
-    ensures { IfOk result (IsPlan profile.now memory.now wanted.now) }
+fn anew_or_partly(alloc: Global, update: &Update<'_>) -> Result<Ops, NoMemory>
+    requires update { IsUpdate update.now }
+    requires due { (is_known update.now.memory.now && not update.now.wanted.now.repaint) ≡ false }
+    ensures { IfOk result (IsPlan update.now.scene.profile.now update.now.memory.now update.now.wanted.now) }
 {
-    let whole = anew(alloc, profile, memory, wanted)?;
-    if wanted.repaint() || !may_be(profile, memory) {
+    let whole = anew(alloc, update)?;
+    if update.wanted.repaint() || !may_be(update.scene.profile, update.memory) {
         return Ok(whole);
     }
-    partly_if_shorter(alloc, profile, memory, wanted, by, whole)
+    partly_if_shorter(alloc, update, whole)
 }
 
 // The plan that erases and paints the rows that are not known, and paints what differs in the
 // others, if it is shorter than `whole`, which clears the screen.
-fn partly_if_shorter(
-    alloc: Global,
-    profile: &Profile,
-    memory: &Memory,
-    wanted: &Virtual,
-    by: Looked,
-    whole: Ops,
-) -> Result<Ops, NoMemory>
-    requires fits { Fits profile.now wanted.now.picture }
-    requires size { IsSizeOf wanted.now.picture memory.now }
-    requires same { ShowsOutside (range_by by) profile.now memory.now wanted.now }
-    requires due { (is_known memory.now && not wanted.now.repaint) ≡ false }
-    requires calm { wanted.now.repaint ≡ false }
-    requires pen { IsShownPen (abilities profile.now) memory.now.state.pen }
-    requires plan { IsPlan profile.now memory.now wanted.now whole }
-    ensures { IfOk result (IsPlan profile.now memory.now wanted.now) }
+fn partly_if_shorter(alloc: Global, update: &Update<'_>, whole: Ops) -> Result<Ops, NoMemory>
+    requires update { IsUpdate update.now }
+    requires due { (is_known update.now.memory.now && not update.now.wanted.now.repaint) ≡ false }
+    requires calm { update.now.wanted.now.repaint ≡ false }
+    requires pen { IsShownPen (abilities update.now.scene.profile.now) update.now.memory.now.state.pen }
+    requires plan { IsPlan update.now.scene.profile.now update.now.memory.now update.now.wanted.now whole }
+    ensures { IfOk result (IsPlan update.now.scene.profile.now update.now.memory.now update.now.wanted.now) }
 {
     run_laws();
     profiles_have();
     memory_runs();
     grid_laws::<Look>();
-    let _profile = profile.size();
-    let _memory = memory.size();
-    let size = wanted.size();
-    let painter = Painter::of(profile);
-    let Some(draft) = short_partly(alloc, painter, profile, memory, wanted, by)? else {
+    let _profile = update.scene.profile.size();
+    let _memory = update.memory.size();
+    let size = update.wanted.size();
+    let Some(draft) = short_partly(alloc, update)? else {
         return Ok(whole);
     };
-    if draft.is_worth(price_of(profile, &whole.0), size) {
+    if draft.is_worth(price_of(update.scene.profile, &whole.0), size) {
         return Ok(Ops(draft.ops));
     }
     Ok(whole)
 }
 
 // Paints the whole screen anew: clears it, and paints what is not blank.
-fn anew(
-    alloc: Global,
-    profile: &Profile,
-    memory: &Memory,
-    wanted: &Virtual,
-) -> Result<Ops, NoMemory>
-    requires fits { Fits profile.now wanted.now.picture }
-    requires size { IsSizeOf wanted.now.picture memory.now }
-    requires due { (is_known memory.now && not wanted.now.repaint) ≡ false }
-    ensures { IfOk result (IsPlan profile.now memory.now wanted.now) }
+fn anew(alloc: Global, update: &Update<'_>) -> Result<Ops, NoMemory>
+    requires update { IsUpdate update.now }
+    requires due { (is_known update.now.memory.now && not update.now.wanted.now.repaint) ≡ false }
+    ensures { IfOk result (IsPlan update.now.scene.profile.now update.now.memory.now update.now.wanted.now) }
 {
     run_laws();
     profiles_have();
@@ -223,69 +207,48 @@ fn anew(
     joined_is_cheap();
     plans_are_remembered();
     grid_laws::<Look>();
-    let _profile = profile.size();
-    let _memory = memory.size();
-    let _wanted = wanted.size();
-    let painter = Painter::of(profile);
-    let picture = wanted.picture();
-    let draft = short_anew(alloc, painter, profile, picture)?;
-    let bytes = bytes_anew(alloc, painter, profile, picture)?;
-    if draft.is_worth(bytes, picture.size()) {
+    let _profile = update.scene.profile.size();
+    let _memory = update.memory.size();
+    let _wanted = update.wanted.size();
+    let scene = &update.scene;
+    let draft = short_anew(alloc, scene)?;
+    let bytes = bytes_anew(alloc, scene)?;
+    if draft.is_worth(bytes, scene.picture.size()) {
         return Ok(Ops(draft.ops));
     }
-    joined_anew(alloc, painter, profile, picture)
+    joined_anew(alloc, scene)
 }
 
 // The number of bytes of the joined repaint of a cleared screen, after what clears it.
-fn bytes_anew(
-    alloc: Global,
-    painter: Painter,
-    profile: &Profile,
-    picture: &Picture,
-) -> Result<usize, NoMemory>
-    requires painter { painter ≡ painter_of profile.now }
-    requires fits { Fits profile.now picture.now }
-    ensures { IfOk result (λ bytes. bytes ≡ counted_up (length (all_bytes profile.now (painted_anew profile.now picture.now)))) }
+fn bytes_anew(alloc: Global, scene: &Scene<'_>) -> Result<usize, NoMemory>
+    requires scene { IsScene scene.now }
+    ensures { IfOk result (λ bytes. bytes ≡ counted_up (length (all_bytes scene.now.profile.now (painted_anew scene.now.profile.now scene.now.picture.now)))) }
 {
-    let mut joining = Joining::on_blanks(profile, Vec::new(alloc), false);
-    joining.join_all(painter, profile, picture)?;
+    let mut joining = Joining::on_blanks(scene.profile, Vec::new(alloc), false);
+    joining.join_all(scene)?;
     Ok(joining.bytes)
 }
 
 // What clears the screen, and the joined repaint of it.
-fn joined_anew(
-    alloc: Global,
-    painter: Painter,
-    profile: &Profile,
-    picture: &Picture,
-) -> Result<Ops, NoMemory>
-    requires painter { painter ≡ painter_of profile.now }
-    requires fits { Fits profile.now picture.now }
-    ensures { IfOk result (λ ops. ops ≡ anew_of profile.now picture.now) }
+fn joined_anew(alloc: Global, scene: &Scene<'_>) -> Result<Ops, NoMemory>
+    requires scene { IsScene scene.now }
+    ensures { IfOk result (λ ops. ops ≡ anew_of scene.now.profile.now scene.now.picture.now) }
 {
-    let mut ops = Vec::with_capacity(alloc, room_of(picture.size()))?;
-    painter.reset(&mut ops)?;
+    let mut ops = Vec::with_capacity(alloc, room_of(scene.picture.size()))?;
+    scene.painter.reset(&mut ops)?;
     ops.push(Op::Clear)?;
-    let mut joining = Joining::on_blanks(profile, ops, true);
-    joining.join_all(painter, profile, picture)?;
+    let mut joining = Joining::on_blanks(scene.profile, ops, true);
+    joining.join_all(scene)?;
     Ok(Ops(joining.ops))
 }
 
 // Paints what differs, in the shorter of two ways.
-fn changes(
-    alloc: Global,
-    profile: &Profile,
-    memory: &Memory,
-    wanted: &Virtual,
-    by: Looked,
-) -> Result<Ops, NoMemory>
-    requires fits { Fits profile.now wanted.now.picture }
-    requires size { IsSizeOf wanted.now.picture memory.now }
-    requires same { ShowsOutside (range_by by) profile.now memory.now wanted.now }
-    requires due { (is_known memory.now && not wanted.now.repaint) ≡ true }
-    requires known { is_known memory.now ≡ true }
-    requires pen { IsShownPen (abilities profile.now) memory.now.state.pen }
-    ensures { IfOk result (IsPlan profile.now memory.now wanted.now) }
+fn changes(alloc: Global, update: &Update<'_>) -> Result<Ops, NoMemory>
+    requires update { IsUpdate update.now }
+    requires due { (is_known update.now.memory.now && not update.now.wanted.now.repaint) ≡ true }
+    requires known { is_known update.now.memory.now ≡ true }
+    requires pen { IsShownPen (abilities update.now.scene.profile.now) update.now.memory.now.state.pen }
+    ensures { IfOk result (IsPlan update.now.scene.profile.now update.now.memory.now update.now.wanted.now) }
 {
     plans_are_made();
     joined_is_cheap();
@@ -294,38 +257,29 @@ fn changes(
     run_laws();
     profiles_have();
     grid_laws::<Look>();
-    let _profile = profile.size();
-    let _memory = memory.size();
-    let _wanted = wanted.size();
-    let painter = Painter::of(profile);
-    if is_nothing_left(painter, profile, memory, wanted, by) {
+    let _profile = update.scene.profile.size();
+    let _memory = update.memory.size();
+    let _wanted = update.wanted.size();
+    if is_nothing_left(update) {
         return Ok(Ops(Vec::new(alloc)));
     }
-    let draft = short_changes(alloc, painter, profile, memory, wanted, by)?;
-    let bytes = bytes_of_joined(alloc, painter, profile, memory, wanted, by, draft.bytes)?;
-    if draft.is_worth(bytes, wanted.size()) {
+    let draft = short_changes(alloc, update)?;
+    let bytes = bytes_of_joined(alloc, update, draft.bytes)?;
+    if draft.is_worth(bytes, update.wanted.size()) {
         return Ok(Ops(draft.ops));
     }
-    joined(alloc, painter, profile, memory, wanted, by)
+    joined(alloc, update)
 }
 
 // Whether no place differs, and the cursor is where it is wanted.
-fn is_nothing_left(
-    painter: Painter,
-    profile: &Profile,
-    memory: &Memory,
-    wanted: &Virtual,
-    by: Looked,
-) -> bool
-    requires painter { painter ≡ painter_of profile.now }
-    requires size { IsSizeOf wanted.now.picture memory.now }
-    requires same { ShowsOutside (range_by by) profile.now memory.now wanted.now }
-    requires known { is_known memory.now ≡ true }
-    ensures none { result ≡ true → is_none_left (differing profile.now wanted.now.picture memory.now) ≡ true }
-    ensures placed { result ≡ true → is_placed memory.now wanted.now.picture.wish ≡ true }
-    ensures some { result ≡ false → (is_none_left (differing profile.now wanted.now.picture memory.now) && is_placed memory.now wanted.now.picture.wish) ≡ false }
+fn is_nothing_left(update: &Update<'_>) -> bool
+    requires update { IsUpdate update.now }
+    requires known { is_known update.now.memory.now ≡ true }
+    ensures none { result ≡ true → is_none_left (differing update.now.scene.profile.now update.now.wanted.now.picture update.now.memory.now) ≡ true }
+    ensures placed { result ≡ true → is_placed update.now.memory.now update.now.wanted.now.picture.wish ≡ true }
+    ensures some { result ≡ false → (is_none_left (differing update.now.scene.profile.now update.now.wanted.now.picture update.now.memory.now) && is_placed update.now.memory.now update.now.wanted.now.picture.wish) ≡ false }
 {
-    memory.is_placed(wanted.picture().wish()) && !differs(painter, profile, memory, wanted, by)
+    update.memory.is_placed(update.wanted.picture().wish()) && !differs(update)
 }
 
 // Room for the operations that usually lead to a place: they are counted, and not kept.
@@ -334,52 +288,31 @@ const FEW_OPERATIONS: usize = 16;
 // The number of bytes of the joined repaint. If that is above the limit, it may be any number
 // between the two.
 #[inline(never)]
-fn bytes_of_joined(
-    alloc: Global,
-    painter: Painter,
-    profile: &Profile,
-    memory: &Memory,
-    wanted: &Virtual,
-    by: Looked,
-    limit: usize,
-) -> Result<usize, NoMemory>
-    requires painter { painter ≡ painter_of profile.now }
-    requires fits { Fits profile.now wanted.now.picture }
-    requires size { IsSizeOf wanted.now.picture memory.now }
-    requires same { ShowsOutside (range_by by) profile.now memory.now wanted.now }
-    requires known { is_known memory.now ≡ true }
-    requires pen { (is_there profile.now Sgr0 ≡ true) ⊎ (is_plain_pen memory.now.state.pen ≡ true) }
-    requires some { (is_none_left (differing profile.now wanted.now.picture memory.now) && is_placed memory.now wanted.now.picture.wish) ≡ false }
-    ensures { IfOk result (λ bytes. bytes ≤ counted_up (length (all_bytes profile.now (joined_of profile.now memory.now wanted.now.picture)))) }
+fn bytes_of_joined(alloc: Global, update: &Update<'_>, limit: usize) -> Result<usize, NoMemory>
+    requires update { IsUpdate update.now }
+    requires known { is_known update.now.memory.now ≡ true }
+    requires pen { (is_there update.now.scene.profile.now Sgr0 ≡ true) ⊎ (is_plain_pen update.now.memory.now.state.pen ≡ true) }
+    requires some { (is_none_left (differing update.now.scene.profile.now update.now.wanted.now.picture update.now.memory.now) && is_placed update.now.memory.now update.now.wanted.now.picture.wish) ≡ false }
+    ensures { IfOk result (λ bytes. bytes ≤ counted_up (length (all_bytes update.now.scene.profile.now (joined_of update.now.scene.profile.now update.now.memory.now update.now.wanted.now.picture)))) }
 {
     let ops = Vec::with_capacity(alloc, FEW_OPERATIONS)?;
-    let mut joining = Joining::on_remembered(painter, profile, memory, ops, false)?;
-    joining.join_changes(painter, profile, memory, wanted, by, Some(limit))?;
+    let mut joining = Joining::on_remembered(&update.scene, update.memory, ops, false)?;
+    joining.join_changes(update, Some(limit))?;
     Ok(joining.bytes)
 }
 
 // The joined repaint.
 #[inline(never)]
-fn joined(
-    alloc: Global,
-    painter: Painter,
-    profile: &Profile,
-    memory: &Memory,
-    wanted: &Virtual,
-    by: Looked,
-) -> Result<Ops, NoMemory>
-    requires painter { painter ≡ painter_of profile.now }
-    requires fits { Fits profile.now wanted.now.picture }
-    requires size { IsSizeOf wanted.now.picture memory.now }
-    requires same { ShowsOutside (range_by by) profile.now memory.now wanted.now }
-    requires known { is_known memory.now ≡ true }
-    requires pen { (is_there profile.now Sgr0 ≡ true) ⊎ (is_plain_pen memory.now.state.pen ≡ true) }
-    requires some { (is_none_left (differing profile.now wanted.now.picture memory.now) && is_placed memory.now wanted.now.picture.wish) ≡ false }
-    ensures { IfOk result (λ ops. ops ≡ joined_of profile.now memory.now wanted.now.picture) }
+fn joined(alloc: Global, update: &Update<'_>) -> Result<Ops, NoMemory>
+    requires update { IsUpdate update.now }
+    requires known { is_known update.now.memory.now ≡ true }
+    requires pen { (is_there update.now.scene.profile.now Sgr0 ≡ true) ⊎ (is_plain_pen update.now.memory.now.state.pen ≡ true) }
+    requires some { (is_none_left (differing update.now.scene.profile.now update.now.wanted.now.picture update.now.memory.now) && is_placed update.now.memory.now update.now.wanted.now.picture.wish) ≡ false }
+    ensures { IfOk result (λ ops. ops ≡ joined_of update.now.scene.profile.now update.now.memory.now update.now.wanted.now.picture) }
 {
-    let ops = Vec::with_capacity(alloc, room_of(wanted.size()))?;
-    let mut joining = Joining::on_remembered(painter, profile, memory, ops, true)?;
-    joining.join_changes(painter, profile, memory, wanted, by, None)?;
+    let ops = Vec::with_capacity(alloc, room_of(update.wanted.size()))?;
+    let mut joining = Joining::on_remembered(&update.scene, update.memory, ops, true)?;
+    joining.join_changes(update, None)?;
     Ok(Ops(joining.ops))
 }
 

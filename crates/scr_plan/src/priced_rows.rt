@@ -4,12 +4,13 @@
 ghost use Rattle.std.specs.Prelude.{◌≡◌, ◌<◌, ◌≤◌, length, true};
 ghost use Rattle.scr_cells.specs.Grids.{grid_row};
 ghost use Rattle.scr_plan.specs.Code.Moves.{IsSlide};
+ghost use Rattle.scr_plan.specs.Code.Scenes.{IsLine};
 
 use crate::blanks::{
     blank_of_many, blanks_begin, blanks_end, is_worth_erasing, least_worth_erasing,
 };
 use crate::looked::Looked;
-use crate::painting::Painter;
+use crate::scenes::{Line, Scene, Update};
 use crate::shown::slide_into;
 use scr_cells::{Cell, Look, NoMemory, Picture};
 use scr_memory::Memory;
@@ -17,12 +18,11 @@ use scr_prices::{Chooser, KnownRows, RowPrices, Slide};
 use scr_term::{FAR, Op, Profile};
 use scr_virtual::Virtual;
 
-// What prices of rows need: a chooser, the profile that it is for, and how that shows cells.
+// What prices of rows need: a chooser, and the scene that it is for.
 #[derive(Clone, Copy)]
 pub(crate) struct PricedRows<'a> {
     chooser: Chooser<'a>,
-    painter: Painter,
-    profile: &'a Profile,
+    scene: Scene<'a>,
 }
 
 // What is remembered of the rows, and which of their columns an update looks at.
@@ -34,46 +34,30 @@ pub(crate) struct RememberedRows<'a> {
 }
 
 impl<'a> PricedRows<'a> {
-    // The prices for a profile and a picture.
-    pub(crate) fn new(
-        painter: Painter,
-        profile: &'a Profile,
-        picture: &'a Picture,
-    ) -> PricedRows<'a> {
+    // The prices for a scene.
+    pub(crate) fn new(scene: &Scene<'a>) -> PricedRows<'a> {
         PricedRows {
-            chooser: Chooser::new(profile, picture),
-            painter,
-            profile,
+            chooser: Chooser::new(scene.profile, scene.picture),
+            scene: *scene,
         }
     }
 
     // The price of the stretches of columns `from..end`.
-    fn stretches_over(
-        &self,
-        picture: &Picture,
-        row: u32,
-        cells: &[Cell],
-        looks: &[Look],
-        from: u32,
-        end: u32,
-    ) -> u32
-        requires cells { cells.now ≡ grid_row picture.now.lines row }
-        requires wide { length cells.now ≡ picture.now.columns }
-        requires width { length looks.now ≡ picture.now.columns }
+    fn stretches_over(&self, line: &Line<'_>, from: u32, end: u32) -> u32
+        requires line { IsLine self.now.scene.picture.now line.now }
         requires from { from ≤ end }
-        requires end { end ≤ picture.now.columns }
+        requires end { end ≤ self.now.scene.picture.now.columns }
     {
-        let painter = self.painter;
-        let profile = self.profile;
+        let scene = &self.scene;
         let mut price = 0u32;
         let mut column = from;
         while column < end {
-            let start = painter.unlike_from(picture, row, cells, Some(looks), column, end);
+            let start = scene.unlike_from(line, column, end);
             if start >= end {
                 return price;
             }
-            let after = painter.stretch_end(profile, picture, row, cells, Some(looks), start, end);
-            price = price.saturating_add(self.of_stretch(cells, start, after));
+            let after = scene.stretch_end(line, start, end);
+            price = price.saturating_add(self.of_stretch(line.cells, start, after));
             column = after;
         }
         price
@@ -84,8 +68,7 @@ impl<'a> PricedRows<'a> {
         requires wide { end ≤ length cells.now }
         requires start { start < end }
     {
-        let painter = self.painter;
-        let (_, pen) = painter.seen_in(self.chooser.picture, cells, start);
+        let (_, pen) = self.scene.seen_in(cells, start);
         if pen.is_plain() {
             self.of_pieces(cells, start, end)
         } else {
@@ -99,7 +82,7 @@ impl<'a> PricedRows<'a> {
         requires wide { end ≤ length cells.now }
         requires start { start < end }
     {
-        let many = least_worth_erasing(self.profile);
+        let many = least_worth_erasing(self.scene.profile);
         let mut price = 0u32;
         let mut begun = start;
         let mut column = start;
@@ -121,7 +104,7 @@ impl<'a> PricedRows<'a> {
     // The price of blanks if they are worth an erasure, and of what is written before them; and the
     // end of what is priced so far.
     fn of_piece(&self, begun: u32, first: u32, after: u32, end: u32) -> (u32, u32) {
-        if !is_worth_erasing(self.profile, after.saturating_sub(first), after < end) {
+        if !is_worth_erasing(self.scene.profile, after.saturating_sub(first), after < end) {
             return (0, begun);
         }
         let price = self
@@ -154,42 +137,48 @@ impl RowPrices for PricedRows<'_> {
     }
 
     fn is_shown(&self, row: u32, looks: &[Look]) -> bool {
-        let picture = self.chooser.picture;
+        let picture = self.scene.picture;
         let columns = picture.size().columns;
         is_row(picture, row, looks) && self.first_unlike(row, looks, 0, columns).is_none()
     }
 
     fn is_seen(&self, look: Look, cell: Cell) -> bool {
-        self.painter.is_seen(self.chooser.picture, look, cell)
+        self.scene.painter.is_seen(self.scene.picture, look, cell)
     }
 
     fn first_unlike(&self, row: u32, looks: &[Look], from: u32, end: u32) -> Option<u32> {
-        let picture = self.chooser.picture;
+        let picture = self.scene.picture;
         let size = picture.size();
         if !is_row(picture, row, looks) || from > end || end > size.columns {
             return None;
         }
-        let cells = picture.row(row);
-        let painter = self.painter;
-        let unlike = painter.unlike_from(picture, row, cells, Some(looks), from, end);
+        let line = Line {
+            row,
+            cells: picture.row(row),
+            before: Some(looks),
+        };
+        let unlike = self.scene.unlike_from(&line, from, end);
         if unlike < end { Some(unlike) } else { None }
     }
 
     // The price is that of the runs of these columns, plus an easy motion for each.
     fn part_over(&self, row: u32, looks: &[Look], from: u32, end: u32) -> u32 {
-        let picture = self.chooser.picture;
+        let picture = self.scene.picture;
         let size = picture.size();
         if !is_row(picture, row, looks) || from > end || end > size.columns {
             return FAR;
         }
-        let cells = picture.row(row);
-        let painter = self.painter;
-        match painter.erased_rest(self.profile, picture, row, cells, Some(looks), from, end) {
+        let line = &Line {
+            row,
+            cells: picture.row(row),
+            before: Some(looks),
+        };
+        match self.scene.erased_rest(line, from, end) {
             Some(column) => self
-                .stretches_over(picture, row, cells, looks, from, column)
+                .stretches_over(line, from, column)
                 .saturating_add(self.chooser.prices.of(Op::EraseLine))
                 .saturating_add(self.chooser.jump),
-            None => self.stretches_over(picture, row, cells, looks, from, end),
+            None => self.stretches_over(line, from, end),
         }
     }
 
@@ -208,9 +197,13 @@ impl RowPrices for PricedRows<'_> {
 }
 
 impl<'a> RememberedRows<'a> {
-    // What is remembered of the rows of a picture that is wanted.
-    pub(crate) fn new(memory: &'a Memory, wanted: &'a Virtual, by: Looked) -> RememberedRows<'a> {
-        RememberedRows { memory, wanted, by }
+    // What is remembered of the rows before an update.
+    pub(crate) fn new(update: &Update<'a>) -> RememberedRows<'a> {
+        RememberedRows {
+            memory: update.memory,
+            wanted: update.wanted,
+            by: update.by,
+        }
     }
 }
 

@@ -4,11 +4,12 @@ ghost use Rattle.std.specs.Prelude.{◌≡◌, ◌<◌, OnOk};
 ghost use Rattle.scr_plan.specs.Code.Drafts.{KeepsAll, KeepsEvery};
 ghost use Rattle.scr_plan.specs.Code.Painters.{painter_of};
 ghost use Rattle.scr_plan.specs.Scratch.{Fits};
+ghost use Rattle.scr_plan.specs.Code.Scenes.{IsScene};
 
-use crate::painting::Painter;
+use crate::scenes::Scene;
 use crate::strokes::Draft;
 use scr_cells::{Attrs, NoMemory, Pen, Picture};
-use scr_prices::{Chooser, Motion, Path, Steps, Turn, cheapest_turn};
+use scr_prices::{Chooser, Motion, Path, Steps, Target, Turn, cheapest_turn};
 use scr_term::{Op, Profile};
 
 impl Draft {
@@ -170,127 +171,81 @@ impl Draft {
     }
 
     // Goes to a place and turns to a pen, by the cheapest way.
-    pub(crate) fn reach(
-        &mut self,
-        painter: Painter,
-        profile: &Profile,
-        picture: &Picture,
-        row: u32,
-        column: u32,
-        pen: Pen,
-    ) -> Result<(), NoMemory>
-        requires painter { painter ≡ painter_of profile.now }
-        requires fits { Fits profile.now picture.now }
-        requires row { row < picture.now.rows }
-        requires column { column < picture.now.columns }
-        ensures { OnOk result (KeepsAll profile.now picture.now self.old self.new) }
+    pub(crate) fn reach(&mut self, scene: &Scene<'_>, to: &Target) -> Result<(), NoMemory>
+        requires scene { IsScene scene.now }
+        requires row { to.now.row < scene.now.picture.now.rows }
+        requires column { to.now.column < scene.now.picture.now.columns }
+        ensures { OnOk result (KeepsAll scene.now.profile.now scene.now.picture.now self.old self.new) }
     {
-        let path = self.path_to(painter, profile, picture, row, column, pen);
-        self.follow(painter, profile, picture, path, row, column, pen)
+        let path = self.path_to(scene, to);
+        self.follow(scene, path, to)
     }
 
     // The cheapest path to a place and a pen.
-    pub(crate) fn path_to(
-        &self,
-        painter: Painter,
-        profile: &Profile,
-        picture: &Picture,
-        row: u32,
-        column: u32,
-        pen: Pen,
-    ) -> Path {
-        let chooser = Chooser::new(profile, picture);
-        chooser.way(&self.cursor(), row, column, pen).path
+    pub(crate) fn path_to(&self, scene: &Scene<'_>, to: &Target) -> Path {
+        let chooser = Chooser::new(scene.profile, scene.picture);
+        chooser.way(&self.cursor(), to).path
     }
 
     // Follows a path to a place and a pen.
     pub(crate) fn follow(
         &mut self,
-        painter: Painter,
-        profile: &Profile,
-        picture: &Picture,
+        scene: &Scene<'_>,
         path: Path,
-        row: u32,
-        column: u32,
-        pen: Pen,
+        to: &Target,
     ) -> Result<(), NoMemory>
-        requires painter { painter ≡ painter_of profile.now }
-        requires fits { Fits profile.now picture.now }
-        requires row { row < picture.now.rows }
-        requires column { column < picture.now.columns }
-        ensures { OnOk result (KeepsAll profile.now picture.now self.old self.new) }
+        requires scene { IsScene scene.now }
+        requires row { to.now.row < scene.now.picture.now.rows }
+        requires column { to.now.column < scene.now.picture.now.columns }
+        ensures { OnOk result (KeepsAll scene.now.profile.now scene.now.picture.now self.old self.new) }
     {
         match path {
-            Path::Moving(motion) => {
-                self.move_and_turn(profile, picture, motion, row, column, pen)
-            }
-            Path::Writing(from) => {
-                self.write_and_turn(painter, profile, picture, row, from, column, pen)
-            }
-            Path::MovingToWrite(motion) => {
-                self.move_and_write(painter, profile, picture, motion, row, column, pen)
-            }
+            Path::Moving(motion) => { self.move_and_turn(scene, motion, to) }
+            Path::Writing(from) => { self.write_and_turn(scene, to, from) }
+            Path::MovingToWrite(motion) => { self.move_and_write(scene, motion, to) }
         }
     }
 
     // By a motion and a turn.
     fn move_and_turn(
         &mut self,
-        profile: &Profile,
-        picture: &Picture,
+        scene: &Scene<'_>,
         motion: Motion,
-        row: u32,
-        column: u32,
-        pen: Pen,
+        to: &Target,
     ) -> Result<(), NoMemory>
-        ensures { OnOk result (KeepsAll profile.now picture.now self.old self.new) }
+        ensures { OnOk result (KeepsAll scene.now.profile.now scene.now.picture.now self.old self.new) }
     {
-        let _size = picture.size();
-        self.move_by(profile, motion, row, column)?;
-        self.turn_to(profile, pen)
+        let _size = scene.picture.size();
+        self.move_by(scene.profile, motion, to.row, to.column)?;
+        self.turn_to(scene.profile, to.pen)
     }
 
     // By writing the places of the row that are between.
-    fn write_and_turn(
-        &mut self,
-        painter: Painter,
-        profile: &Profile,
-        picture: &Picture,
-        row: u32,
-        from: u32,
-        column: u32,
-        pen: Pen,
-    ) -> Result<(), NoMemory>
-        requires painter { painter ≡ painter_of profile.now }
-        requires fits { Fits profile.now picture.now }
-        requires row { row < picture.now.rows }
-        requires column { column < picture.now.columns }
-        ensures { OnOk result (KeepsAll profile.now picture.now self.old self.new) }
+    fn write_and_turn(&mut self, scene: &Scene<'_>, to: &Target, from: u32) -> Result<(), NoMemory>
+        requires scene { IsScene scene.now }
+        requires row { to.now.row < scene.now.picture.now.rows }
+        requires column { to.now.column < scene.now.picture.now.columns }
+        ensures { OnOk result (KeepsAll scene.now.profile.now scene.now.picture.now self.old self.new) }
     {
-        let _size = picture.size();
-        self.write(painter, profile, picture, row, from, column)?;
-        self.turn_to(profile, pen)
+        let _size = scene.picture.size();
+        self.write(scene, to.row, from, to.column)?;
+        self.turn_to(scene.profile, to.pen)
     }
 
     // By a motion, a turn, and writing the places of the row before it.
     fn move_and_write(
         &mut self,
-        painter: Painter,
-        profile: &Profile,
-        picture: &Picture,
+        scene: &Scene<'_>,
         motion: Motion,
-        row: u32,
-        column: u32,
-        pen: Pen,
+        to: &Target,
     ) -> Result<(), NoMemory>
-        requires painter { painter ≡ painter_of profile.now }
-        requires fits { Fits profile.now picture.now }
-        requires row { row < picture.now.rows }
-        requires column { column < picture.now.columns }
-        ensures { OnOk result (KeepsAll profile.now picture.now self.old self.new) }
+        requires scene { IsScene scene.now }
+        requires row { to.now.row < scene.now.picture.now.rows }
+        requires column { to.now.column < scene.now.picture.now.columns }
+        ensures { OnOk result (KeepsAll scene.now.profile.now scene.now.picture.now self.old self.new) }
     {
-        let _size = picture.size();
-        self.move_and_turn(profile, picture, motion, row, 0, pen)?;
-        self.write(painter, profile, picture, row, 0, column)
+        let _size = scene.picture.size();
+        self.move_and_turn(scene, motion, &Target { column: 0, ..*to })?;
+        self.write(scene, to.row, 0, to.column)
     }
 }

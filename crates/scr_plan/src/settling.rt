@@ -13,9 +13,10 @@ ghost use Rattle.scr_prices.specs.declared.shifts.Shift.{Shift};
 ghost use Rattle.scr_term.specs.Operations.Profiles.{ProfileView};
 ghost use Rattle.scr_term.specs.Operations.Texts.{has};
 ghost use Rattle.scr_virtual.specs.Ranges.{IsRange};
+ghost use Rattle.scr_plan.specs.Code.Scenes.{IsScene, IsUpdate};
 
 use crate::looked::Looked;
-use crate::painting::Painter;
+use crate::scenes::{Scene, Update};
 use crate::shown::{is_moved, shown_row, slide_into};
 use crate::sliding::slide_of;
 use crate::strokes::Draft;
@@ -31,62 +32,55 @@ impl Draft {
     #[inline(never)]
     fn settle_slid(
         &mut self,
-        painter: Painter,
-        profile: &Profile,
-        picture: &Picture,
+        scene: &Scene<'_>,
         row: u32,
         looks: &[Look],
         slide: Slide,
         runs: &mut Vec<Run>,
         room: &mut Vec<Look>,
     ) -> Result<(), NoMemory>
-        requires painter { painter ≡ painter_of profile.now }
-        requires fits { Fits profile.now picture.now }
-        requires row { row < picture.now.rows }
-        requires width { length looks.now ≡ picture.now.columns }
-        requires slide { IsSlide picture.now.columns slide }
-        requires has { has profile.now (op_of slide) ≡ true }
-        ensures { OnOk result ((shift : Option Shift) (grid : List (List LookView)) → IsShownRow picture.now.columns shift grid row (Some looks.now)
-            → Settles profile.now picture.now shift grid row (row + 1) runs.old.items runs.new.items self.old self.new) }
+        requires scene { IsScene scene.now }
+        requires row { row < scene.now.picture.now.rows }
+        requires width { length looks.now ≡ scene.now.picture.now.columns }
+        requires slide { IsSlide scene.now.picture.now.columns slide }
+        requires has { has scene.now.profile.now (op_of slide) ≡ true }
+        ensures { OnOk result ((shift : Option Shift) (grid : List (List LookView)) → IsShownRow scene.now.picture.now.columns shift grid row (Some looks.now)
+            → Settles scene.now.profile.now scene.now.picture.now shift grid row (row + 1) runs.old.items runs.new.items self.old self.new) }
     {
-        let size = picture.size();
-        self.slide(painter, profile, picture, row, slide)?;
+        let size = scene.picture.size();
+        self.slide(scene, row, slide)?;
         slide_into(room, looks, slide)?;
-        painter.add_row(profile, picture, row, Some(room), 0, size.columns, runs)
+        scene.add_row(row, Some(room), 0, size.columns, runs)
     }
 
-    // Settles a row that shows `looks`, and the picture except in columns `from..end`: finds its
-    // runs, and slides its characters if that is worth it.
+    // Settles a row that shows `looks`, and the picture except from the first of two columns up to
+    // the second: finds its runs, and slides its characters if that is worth it.
     fn settle_over(
         &mut self,
-        painter: Painter,
-        profile: &Profile,
-        picture: &Picture,
+        scene: &Scene<'_>,
         row: u32,
         looks: &[Look],
-        from: u32,
-        end: u32,
+        columns: (u32, u32),
         runs: &mut Vec<Run>,
         room: &mut Vec<Look>,
     ) -> Result<(), NoMemory>
-        requires painter { painter ≡ painter_of profile.now }
-        requires fits { Fits profile.now picture.now }
-        requires row { row < picture.now.rows }
-        requires width { length looks.now ≡ picture.now.columns }
-        requires from { from < end }
-        requires end { end ≤ picture.now.columns }
-        ensures { OnOk result ((shift : Option Shift) (grid : List (List LookView)) → IsShownRow picture.now.columns shift grid row (Some looks.now) → ShowsBeside profile.now picture.now shift grid row (Some (from, end - 1))
-            → Settles profile.now picture.now shift grid row (row + 1) runs.old.items runs.new.items self.old self.new) }
+        requires scene { IsScene scene.now }
+        requires row { row < scene.now.picture.now.rows }
+        requires width { length looks.now ≡ scene.now.picture.now.columns }
+        requires from { columns.0 < columns.1 }
+        requires end { columns.1 ≤ scene.now.picture.now.columns }
+        ensures { OnOk result ((shift : Option Shift) (grid : List (List LookView)) → IsShownRow scene.now.picture.now.columns shift grid row (Some looks.now) → ShowsBeside scene.now.profile.now scene.now.picture.now shift grid row (Some (columns.0, columns.1 - 1))
+            → Settles scene.now.profile.now scene.now.picture.now shift grid row (row + 1) runs.old.items runs.new.items self.old self.new) }
     {
-        let _size = picture.size();
+        let _size = scene.picture.size();
         let begun = runs.len();
-        painter.add_row(profile, picture, row, Some(looks), from, end, runs)?;
+        scene.add_row(row, Some(looks), columns.0, columns.1, runs)?;
         let cursor = self.cursor();
         let found = runs_after(runs, begun);
-        match slide_of(painter, profile, picture, &cursor, row, looks, found, room)? {
+        match slide_of(scene, &cursor, row, looks, found, room)? {
             Some(slide) => {
                 drop_from(runs, row);
-                self.settle_slid(painter, profile, picture, row, looks, slide, runs, room)
+                self.settle_slid(scene, row, looks, slide, runs, room)
             }
             None => Ok(()),
         }
@@ -95,100 +89,76 @@ impl Draft {
     // Settles a row.
     fn settle_row(
         &mut self,
-        painter: Painter,
-        profile: &Profile,
-        memory: &Memory,
-        wanted: &Virtual,
-        by: Looked,
+        update: &Update<'_>,
         shift: Option<Shift>,
         row: u32,
         runs: &mut Vec<Run>,
         room: &mut Vec<Look>,
     ) -> Result<(), NoMemory>
-        requires painter { painter ≡ painter_of profile.now }
-        requires fits { Fits profile.now wanted.now.picture }
-        requires size { IsSizeOf wanted.now.picture memory.now }
-        requires same { ShowsOutside (range_by by) profile.now memory.now wanted.now }
-        requires known { is_known memory.now ≡ true }
-        requires shift { IfSome shift (IsShift wanted.now.picture.rows) }
-        requires row { row < wanted.now.picture.rows }
-        ensures { OnOk result (Settles profile.now wanted.now.picture shift memory.now.state.grid row (row + 1) runs.old.items runs.new.items self.old self.new) }
+        requires update { IsUpdate update.now }
+        requires known { is_known update.now.memory.now ≡ true }
+        requires shift { IfSome shift (IsShift update.now.wanted.now.picture.rows) }
+        requires row { row < update.now.wanted.now.picture.rows }
+        ensures { OnOk result (Settles update.now.scene.profile.now update.now.wanted.now.picture shift update.now.memory.now.state.grid row (row + 1) runs.old.items runs.new.items self.old self.new) }
     {
-        let _size = wanted.size();
-        let picture = wanted.picture();
-        match columns_to_look(wanted, by, shift, row) {
+        let _size = update.wanted.size();
+        match columns_to_look(update.wanted, update.by, shift, row) {
             Some((from, last)) => {
-                let end = last + 1;
-                self.settle_part(
-                    painter, profile, memory, picture, shift, row, from, end, runs, room,
-                )
+                self.settle_part(update, shift, row, (from, last + 1), runs, room)
             }
             None => Ok(()),
         }
     }
 
-    // Settles a row that shows the picture after a shift, except in columns `from..end`.
+    // Settles a row that shows the picture after a shift, except from the first of two columns up
+    // to the second.
     fn settle_part(
         &mut self,
-        painter: Painter,
-        profile: &Profile,
-        memory: &Memory,
-        picture: &Picture,
+        update: &Update<'_>,
         shift: Option<Shift>,
         row: u32,
-        from: u32,
-        end: u32,
+        columns: (u32, u32),
         runs: &mut Vec<Run>,
         room: &mut Vec<Look>,
     ) -> Result<(), NoMemory>
-        requires painter { painter ≡ painter_of profile.now }
-        requires fits { Fits profile.now picture.now }
-        requires size { IsSizeOf picture.now memory.now }
-        requires shift { IfSome shift (IsShift picture.now.rows) }
-        requires row { row < picture.now.rows }
-        requires from { from < end }
-        requires end { end ≤ picture.now.columns }
-        requires beside { ShowsBeside profile.now picture.now shift memory.now.state.grid row (Some (from, end - 1)) }
-        ensures { OnOk result (Settles profile.now picture.now shift memory.now.state.grid row (row + 1) runs.old.items runs.new.items self.old self.new) }
+        requires update { IsUpdate update.now }
+        requires shift { IfSome shift (IsShift update.now.scene.picture.now.rows) }
+        requires row { row < update.now.scene.picture.now.rows }
+        requires from { columns.0 < columns.1 }
+        requires end { columns.1 ≤ update.now.scene.picture.now.columns }
+        requires beside { ShowsBeside update.now.scene.profile.now update.now.scene.picture.now shift update.now.memory.now.state.grid row (Some (columns.0, columns.1 - 1)) }
+        ensures { OnOk result (Settles update.now.scene.profile.now update.now.scene.picture.now shift update.now.memory.now.state.grid row (row + 1) runs.old.items runs.new.items self.old self.new) }
     {
-        let _size = picture.size();
-        match shown_row(memory, shift, row) {
-            Some(looks) => {
-                self.settle_over(painter, profile, picture, row, looks, from, end, runs, room)
-            }
-            None => painter.add_row(profile, picture, row, None, from, end, runs),
+        let scene = &update.scene;
+        let _size = scene.picture.size();
+        match shown_row(update.memory, shift, row) {
+            Some(looks) => self.settle_over(scene, row, looks, columns, runs, room),
+            None => scene.add_row(row, None, columns.0, columns.1, runs),
         }
     }
 
     // Settles the rows from one on.
     pub(crate) fn settle_from(
         &mut self,
-        painter: Painter,
-        profile: &Profile,
-        memory: &Memory,
-        wanted: &Virtual,
-        by: Looked,
+        update: &Update<'_>,
         shift: Option<Shift>,
         from: u32,
         runs: &mut Vec<Run>,
         room: &mut Vec<Look>,
     ) -> Result<(), NoMemory>
-        requires painter { painter ≡ painter_of profile.now }
-        requires fits { Fits profile.now wanted.now.picture }
-        requires size { IsSizeOf wanted.now.picture memory.now }
-        requires same { ShowsOutside (range_by by) profile.now memory.now wanted.now }
-        requires known { is_known memory.now ≡ true }
-        requires shift { IfSome shift (IsShift wanted.now.picture.rows) }
-        ensures { OnOk result (Settles profile.now wanted.now.picture shift memory.now.state.grid from wanted.now.picture.rows runs.old.items runs.new.items self.old self.new) }
+        requires update { IsUpdate update.now }
+        requires known { is_known update.now.memory.now ≡ true }
+        requires shift { IfSome shift (IsShift update.now.wanted.now.picture.rows) }
+        ensures { OnOk result (Settles update.now.scene.profile.now update.now.wanted.now.picture shift update.now.memory.now.state.grid from update.now.wanted.now.picture.rows runs.old.items runs.new.items self.old self.new) }
     {
-        let _size = wanted.size();
-        let (_, end) = by.rows(wanted);
+        let _size = update.wanted.size();
+        let (_, end) = update.by.rows(update.wanted);
         let end = later(end, end_of_moved(shift));
         if from >= end {
             return Ok(());
         }
         for row in from..end {
-            self.settle_row(painter, profile, memory, wanted, by, shift, row, runs, room)?;
+            self.settle_row(update, shift, row, runs, room)?;
         }
         Ok(())
     }

@@ -11,10 +11,11 @@ ghost use Rattle.scr_plan.specs.Scratch.{Fits};
 ghost use Rattle.scr_term.specs.declared.operations.operation.Op.TheVariants.{DeleteLines, InsertLines};
 ghost use Rattle.scr_term.specs.declared.operations.operation.Spot.TheVariants.{At};
 ghost use Rattle.scr_term.specs.Operations.Texts.{has};
+ghost use Rattle.scr_plan.specs.Code.Scenes.{IsScene, IsUpdate};
 
 use crate::looked::Looked;
-use crate::painting::Painter;
 use crate::priced_rows::{PricedRows, RememberedRows};
+use crate::scenes::{Scene, Update};
 use crate::strokes::Draft;
 use scr_cells::{Look, NoMemory, Picture, grid_laws};
 use scr_memory::Memory;
@@ -27,153 +28,113 @@ impl Draft {
     // Goes to a place with a plain pen, by a turn and the cheapest motion.
     pub(crate) fn come_to(
         &mut self,
-        painter: Painter,
-        profile: &Profile,
-        picture: &Picture,
+        scene: &Scene<'_>,
         row: u32,
         column: u32,
     ) -> Result<(), NoMemory>
-        requires painter { painter ≡ painter_of profile.now }
-        requires fits { Fits profile.now picture.now }
-        requires row { row < picture.now.rows }
-        requires column { column < picture.now.columns }
-        ensures keeps { OnOk result (KeepsEvery profile.now self.old self.new) }
+        requires scene { IsScene scene.now }
+        requires row { row < scene.now.picture.now.rows }
+        requires column { column < scene.now.picture.now.columns }
+        ensures keeps { OnOk result (KeepsEvery scene.now.profile.now self.old self.new) }
         ensures spot { OnOk result (self.new.spot ≡ At row column) }
         ensures plain { OnOk result (is_plain_pen self.new.pen ≡ true) }
     {
         if !self.pen.is_plain() {
-            self.turn(profile, Op::Reset)?;
+            self.turn(scene.profile, Op::Reset)?;
         }
-        let motion = cheapest_motion(profile.prices(), self.spot, row, column);
-        self.move_by(profile, motion, row, column)?;
+        let motion = cheapest_motion(scene.profile.prices(), self.spot, row, column);
+        self.move_by(scene.profile, motion, row, column)?;
         if self.spot == Spot::At(row, column) && self.pen.is_plain() {
             return Ok(());
         }
-        self.jump(painter, profile, picture, row, column)
+        self.jump(scene, row, column)
     }
 
     // Deletes lines from a row on.
-    fn delete_lines(
-        &mut self,
-        painter: Painter,
-        profile: &Profile,
-        picture: &Picture,
-        row: u32,
-        count: u32,
-    ) -> Result<(), NoMemory>
-        requires painter { painter ≡ painter_of profile.now }
-        requires fits { Fits profile.now picture.now }
+    fn delete_lines(&mut self, scene: &Scene<'_>, row: u32, count: u32) -> Result<(), NoMemory>
+        requires scene { IsScene scene.now }
         requires some { 1 ≤ count }
-        requires inside { row + count ≤ picture.now.rows }
-        requires has { has profile.now (DeleteLines count) ≡ true }
-        ensures { OnOk result (Sends profile.now (rows_up row profile.now.rows count blank) self.old self.new) }
+        requires inside { row + count ≤ scene.now.picture.now.rows }
+        requires has { has scene.now.profile.now (DeleteLines count) ≡ true }
+        ensures { OnOk result (Sends scene.now.profile.now (rows_up row scene.now.profile.now.rows count blank) self.old self.new) }
     {
         run_laws();
         grid_laws::<Look>();
-        let _profile = profile.size();
-        let _picture = picture.size();
-        self.come_to(painter, profile, picture, row, 0)?;
-        self.add(profile, Op::DeleteLines(count), self.spot, self.pen)
+        let _profile = scene.profile.size();
+        let _picture = scene.picture.size();
+        self.come_to(scene, row, 0)?;
+        self.add(scene.profile, Op::DeleteLines(count), self.spot, self.pen)
     }
 
     // Inserts blank lines before a row.
-    fn insert_lines(
-        &mut self,
-        painter: Painter,
-        profile: &Profile,
-        picture: &Picture,
-        row: u32,
-        count: u32,
-    ) -> Result<(), NoMemory>
-        requires painter { painter ≡ painter_of profile.now }
-        requires fits { Fits profile.now picture.now }
+    fn insert_lines(&mut self, scene: &Scene<'_>, row: u32, count: u32) -> Result<(), NoMemory>
+        requires scene { IsScene scene.now }
         requires some { 1 ≤ count }
-        requires inside { row + count ≤ picture.now.rows }
-        requires has { has profile.now (InsertLines count) ≡ true }
-        ensures { OnOk result (Sends profile.now (rows_down row profile.now.rows count blank) self.old self.new) }
+        requires inside { row + count ≤ scene.now.picture.now.rows }
+        requires has { has scene.now.profile.now (InsertLines count) ≡ true }
+        ensures { OnOk result (Sends scene.now.profile.now (rows_down row scene.now.profile.now.rows count blank) self.old self.new) }
     {
         run_laws();
         grid_laws::<Look>();
-        let _profile = profile.size();
-        let _picture = picture.size();
-        self.come_to(painter, profile, picture, row, 0)?;
-        self.add(profile, Op::InsertLines(count), self.spot, self.pen)
+        let _profile = scene.profile.size();
+        let _picture = scene.picture.size();
+        self.come_to(scene, row, 0)?;
+        self.add(scene.profile, Op::InsertLines(count), self.spot, self.pen)
     }
 
     // Shifts rows up: lines are deleted at the block's top, and inserted above what is below it, so
     // that nothing but blank lines leaves the screen.
-    fn shift_up(
-        &mut self,
-        painter: Painter,
-        profile: &Profile,
-        picture: &Picture,
-        shift: Shift,
-    ) -> Result<(), NoMemory>
-        requires painter { painter ≡ painter_of profile.now }
-        requires fits { Fits profile.now picture.now }
-        requires shift { IsShift picture.now.rows shift }
-        requires deletes { has profile.now (DeleteLines shift.count) ≡ true }
-        requires inserts { has profile.now (InsertLines shift.count) ≡ true }
-        ensures { OnOk result (Sends profile.now (rows_up shift.top shift.end shift.count blank) self.old self.new) }
+    fn shift_up(&mut self, scene: &Scene<'_>, shift: Shift) -> Result<(), NoMemory>
+        requires scene { IsScene scene.now }
+        requires shift { IsShift scene.now.picture.now.rows shift }
+        requires deletes { has scene.now.profile.now (DeleteLines shift.count) ≡ true }
+        requires inserts { has scene.now.profile.now (InsertLines shift.count) ≡ true }
+        ensures { OnOk result (Sends scene.now.profile.now (rows_up shift.top shift.end shift.count blank) self.old self.new) }
     {
         grid_laws::<Look>();
-        let _picture = picture.size();
-        let size = profile.size();
-        self.delete_lines(painter, profile, picture, shift.top, shift.count)?;
+        let _picture = scene.picture.size();
+        let size = scene.profile.size();
+        self.delete_lines(scene, shift.top, shift.count)?;
         if shift.end < size.rows {
             let row = shift.end - shift.count;
-            self.insert_lines(painter, profile, picture, row, shift.count)
+            self.insert_lines(scene, row, shift.count)
         } else {
             Ok(())
         }
     }
 
     // Shifts rows down: lines are deleted above what is below the block, and inserted at its top.
-    fn shift_down(
-        &mut self,
-        painter: Painter,
-        profile: &Profile,
-        picture: &Picture,
-        shift: Shift,
-    ) -> Result<(), NoMemory>
-        requires painter { painter ≡ painter_of profile.now }
-        requires fits { Fits profile.now picture.now }
-        requires shift { IsShift picture.now.rows shift }
-        requires deletes { has profile.now (DeleteLines shift.count) ≡ true }
-        requires inserts { has profile.now (InsertLines shift.count) ≡ true }
-        ensures { OnOk result (Sends profile.now (rows_down shift.top shift.end shift.count blank) self.old self.new) }
+    fn shift_down(&mut self, scene: &Scene<'_>, shift: Shift) -> Result<(), NoMemory>
+        requires scene { IsScene scene.now }
+        requires shift { IsShift scene.now.picture.now.rows shift }
+        requires deletes { has scene.now.profile.now (DeleteLines shift.count) ≡ true }
+        requires inserts { has scene.now.profile.now (InsertLines shift.count) ≡ true }
+        ensures { OnOk result (Sends scene.now.profile.now (rows_down shift.top shift.end shift.count blank) self.old self.new) }
     {
         grid_laws::<Look>();
-        let _picture = picture.size();
-        let size = profile.size();
+        let _picture = scene.picture.size();
+        let size = scene.profile.size();
         if shift.end < size.rows {
             let row = shift.end - shift.count;
-            self.delete_lines(painter, profile, picture, row, shift.count)?;
-            self.insert_lines(painter, profile, picture, shift.top, shift.count)
+            self.delete_lines(scene, row, shift.count)?;
+            self.insert_lines(scene, shift.top, shift.count)
         } else {
-            self.insert_lines(painter, profile, picture, shift.top, shift.count)
+            self.insert_lines(scene, shift.top, shift.count)
         }
     }
 
     // Shifts rows.
-    fn shift_rows(
-        &mut self,
-        painter: Painter,
-        profile: &Profile,
-        picture: &Picture,
-        shift: Shift,
-    ) -> Result<(), NoMemory>
-        requires painter { painter ≡ painter_of profile.now }
-        requires fits { Fits profile.now picture.now }
-        requires shift { IsShift picture.now.rows shift }
-        requires deletes { has profile.now (DeleteLines shift.count) ≡ true }
-        requires inserts { has profile.now (InsertLines shift.count) ≡ true }
-        ensures { OnOk result (Sends profile.now (shifted_at shift) self.old self.new) }
+    fn shift_rows(&mut self, scene: &Scene<'_>, shift: Shift) -> Result<(), NoMemory>
+        requires scene { IsScene scene.now }
+        requires shift { IsShift scene.now.picture.now.rows shift }
+        requires deletes { has scene.now.profile.now (DeleteLines shift.count) ≡ true }
+        requires inserts { has scene.now.profile.now (InsertLines shift.count) ≡ true }
+        ensures { OnOk result (Sends scene.now.profile.now (shifted_at shift) self.old self.new) }
     {
         if shift.up {
-            self.shift_up(painter, profile, picture, shift)
+            self.shift_up(scene, shift)
         } else {
-            self.shift_down(painter, profile, picture, shift)
+            self.shift_down(scene, shift)
         }
     }
 
@@ -181,51 +142,37 @@ impl Draft {
     pub(crate) fn shift_if_worth(
         &mut self,
         alloc: Global,
-        painter: Painter,
-        profile: &Profile,
-        memory: &Memory,
-        wanted: &Virtual,
-        by: Looked,
+        update: &Update<'_>,
     ) -> Result<Option<Shift>, NoMemory>
-        requires painter { painter ≡ painter_of profile.now }
-        requires fits { Fits profile.now wanted.now.picture }
-        requires size { IsSizeOf wanted.now.picture memory.now }
-        ensures shift { IfOk result (λ shift. IfSome shift (IsShift wanted.now.picture.rows)) }
-        ensures sent { IfOk result (λ shift. Sends profile.now (shown_at shift) self.old self.new) }
+        requires update { IsUpdate update.now }
+        ensures shift { IfOk result (λ shift. IfSome shift (IsShift update.now.wanted.now.picture.rows)) }
+        ensures sent { IfOk result (λ shift. Sends update.now.scene.profile.now (shown_at shift) self.old self.new) }
     {
         grid_laws::<Look>();
         let cursor = self.cursor();
-        let Some(shift) = shift_of(alloc, painter, profile, memory, wanted, by, &cursor)? else {
+        let Some(shift) = shift_of(alloc, update, &cursor)? else {
             return Ok(None);
         };
         let (deletion, insertion) = (Op::DeleteLines(shift.count), Op::InsertLines(shift.count));
-        if !profile.has(deletion) || !profile.has(insertion) {
+        if !update.scene.profile.has(deletion) || !update.scene.profile.has(insertion) {
             return Ok(None);
         }
-        self.shift_rows(painter, profile, wanted.picture(), shift)?;
+        self.shift_rows(&update.scene, shift)?;
         Ok(Some(shift))
     }
 }
 
 // The shift that is worth sending, if the terminal can shift rows.
-fn shift_of(
-    alloc: Global,
-    painter: Painter,
-    profile: &Profile,
-    memory: &Memory,
-    wanted: &Virtual,
-    by: Looked,
-    cursor: &Cursor,
-) -> Result<Option<Shift>, NoMemory>
-    ensures { IfOk result (λ shift. IfSome shift (IsShift memory.now.rows)) }
+fn shift_of(alloc: Global, update: &Update<'_>, cursor: &Cursor) -> Result<Option<Shift>, NoMemory>
+    ensures { IfOk result (λ shift. IfSome shift (IsShift update.now.memory.now.rows)) }
 {
-    if !can_shift_some(profile.prices()) {
+    if !can_shift_some(update.scene.profile.prices()) {
         return Ok(None);
     }
-    let prices = PricedRows::new(painter, profile, wanted.picture());
-    let rows = RememberedRows::new(memory, wanted, by);
+    let prices = PricedRows::new(&update.scene);
+    let rows = RememberedRows::new(update);
     let shift = cheapest_shift(alloc, &prices, &rows, cursor)?;
-    Ok(if_inside(shift, memory.size().rows))
+    Ok(if_inside(shift, update.memory.size().rows))
 }
 
 // A shift, if it is one on a screen of this many rows.

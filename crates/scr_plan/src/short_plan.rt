@@ -11,10 +11,11 @@ ghost use Rattle.scr_plan.specs.Code.Planning.{range_by};
 ghost use Rattle.scr_memory.specs.Memories.{is_known, is_known_row};
 ghost use Rattle.scr_plan.specs.Repaints.{IsSizeOf, ShowsOutside};
 ghost use Rattle.scr_plan.specs.Scratch.{Fits, resets};
+ghost use Rattle.scr_plan.specs.Code.Scenes.{IsScene, IsUpdate};
 
 use crate::looked::Looked;
-use crate::painting::Painter;
 use crate::runs::room_for;
+use crate::scenes::{Scene, Update};
 use crate::strokes::Draft;
 use scr_cells::{NoMemory, Pen, Picture, Size};
 use scr_memory::Memory;
@@ -28,57 +29,41 @@ const FEW_RUNS: usize = 16;
 
 // The short plan of what differs from what is remembered.
 #[inline(never)]
-pub(crate) fn short_changes(
-    alloc: Global,
-    painter: Painter,
-    profile: &Profile,
-    memory: &Memory,
-    wanted: &Virtual,
-    by: Looked,
-) -> Result<Draft, NoMemory>
-    requires painter { painter ≡ painter_of profile.now }
-    requires fits { Fits profile.now wanted.now.picture }
-    requires size { IsSizeOf wanted.now.picture memory.now }
-    requires same { ShowsOutside (range_by by) profile.now memory.now wanted.now }
-    requires known { is_known memory.now ≡ true }
-    requires pen { IsShownPen (abilities profile.now) memory.now.state.pen }
-    ensures { IfOk result (IsChanged profile.now wanted.now.picture memory.now.state) }
+pub(crate) fn short_changes(alloc: Global, update: &Update<'_>) -> Result<Draft, NoMemory>
+    requires update { IsUpdate update.now }
+    requires known { is_known update.now.memory.now ≡ true }
+    requires pen { IsShownPen (abilities update.now.scene.profile.now) update.now.memory.now.state.pen }
+    ensures { IfOk result (IsChanged update.now.scene.profile.now update.now.wanted.now.picture update.now.memory.now.state) }
 {
-    let _profile = profile.size();
-    let _memory = memory.size();
+    let _profile = update.scene.profile.size();
+    let _memory = update.memory.size();
     let mut runs = Vec::with_capacity(alloc, FEW_RUNS)?;
-    let picture = wanted.picture();
+    let scene = &update.scene;
     let mut draft = Draft {
         ops: Vec::new(alloc),
         bytes: 0,
-        spot: memory.remembered_spot(),
-        pen: memory.remembered_pen(),
+        spot: update.memory.remembered_spot(),
+        pen: update.memory.remembered_pen(),
     };
-    draft.move_what_stays(alloc, painter, profile, memory, wanted, by, &mut runs)?;
+    draft.move_what_stays(alloc, update, &mut runs)?;
     let moved = !draft.ops.is_empty();
     draft.make_room(&runs)?;
-    draft.wipe_if_worth(painter, profile, picture, &mut runs)?;
-    draft.paint_all(alloc, painter, profile, picture, &mut runs, moved)?;
+    draft.wipe_if_worth(scene, &mut runs)?;
+    draft.paint_all(alloc, scene, &mut runs, moved)?;
     Ok(draft)
 }
 
 // The short plan of a cleared screen, after what clears it.
-pub(crate) fn short_anew(
-    alloc: Global,
-    painter: Painter,
-    profile: &Profile,
-    picture: &Picture,
-) -> Result<Draft, NoMemory>
-    requires painter { painter ≡ painter_of profile.now }
-    requires fits { Fits profile.now picture.now }
-    ensures { IfOk result (IsDone profile.now picture.now (resets profile.now ++ Clear ∷ []) (blank_state profile.now.rows profile.now.columns)) }
+pub(crate) fn short_anew(alloc: Global, scene: &Scene<'_>) -> Result<Draft, NoMemory>
+    requires scene { IsScene scene.now }
+    ensures { IfOk result (IsDone scene.now.profile.now scene.now.picture.now (resets scene.now.profile.now ++ Clear ∷ []) (blank_state scene.now.profile.now.rows scene.now.profile.now.columns)) }
 {
     blank_laws();
-    let _profile = profile.size();
+    let _profile = scene.profile.size();
     let mut runs = Vec::new(alloc);
-    painter.add_rows(profile, picture, 0, &mut runs)?;
+    scene.add_rows(0, &mut runs)?;
     let mut ops = Vec::with_capacity(alloc, room_for(&runs))?;
-    painter.reset(&mut ops)?;
+    scene.painter.reset(&mut ops)?;
     ops.push(Op::Clear)?;
     let mut draft = Draft {
         ops,
@@ -86,33 +71,27 @@ pub(crate) fn short_anew(
         spot: Spot::At(0, 0),
         pen: Pen::plain(),
     };
-    draft.paint_all(alloc, painter, profile, picture, &mut runs, false)?;
+    draft.paint_all(alloc, scene, &mut runs, false)?;
     Ok(draft)
 }
 
 // Finds the runs of a row's places that differ from what is known of them.
 pub(crate) fn find_in_row(
-    painter: Painter,
-    profile: &Profile,
-    memory: &Memory,
-    wanted: &Virtual,
-    by: Looked,
+    update: &Update<'_>,
     row: u32,
     runs: &mut Vec<Run>,
 ) -> Result<(), NoMemory>
-    requires painter { painter ≡ painter_of profile.now }
-    requires size { IsSizeOf wanted.now.picture memory.now }
-    requires same { ShowsOutside (range_by by) profile.now memory.now wanted.now }
-    requires row { row < wanted.now.picture.rows }
-    requires known { is_known_row memory.now row ≡ true }
+    requires update { IsUpdate update.now }
+    requires row { row < update.now.wanted.now.picture.rows }
+    requires known { is_known_row update.now.memory.now row ≡ true }
     ensures kept { OnOk result (KeepsRuns runs.old.items runs.new.items) }
-    ensures has { OnOk result (HasChangesIn profile.now wanted.now.picture memory.now runs.new.items row) }
+    ensures has { OnOk result (HasChangesIn update.now.scene.profile.now update.now.wanted.now.picture update.now.memory.now runs.new.items row) }
 {
-    let _size = wanted.size();
-    match by.in_row(wanted, row) {
+    let _size = update.wanted.size();
+    match update.by.in_row(update.wanted, row) {
         Some((from, last)) => {
-            let looks = Some(memory.looks(row));
-            painter.add_row(profile, wanted.picture(), row, looks, from, last + 1, runs)
+            let looks = Some(update.memory.looks(row));
+            update.scene.add_row(row, looks, from, last + 1, runs)
         }
         None => Ok(()),
     }

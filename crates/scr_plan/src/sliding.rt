@@ -6,9 +6,10 @@ ghost use Rattle.scr_plan.specs.Code.Settled.{SlidesRow, op_of};
 ghost use Rattle.scr_plan.specs.Scratch.{Fits};
 ghost use Rattle.scr_term.specs.declared.operations.operation.Op.TheVariants.{DeleteChars, InsertChars};
 ghost use Rattle.scr_term.specs.Operations.Texts.{has};
+ghost use Rattle.scr_plan.specs.Code.Scenes.{IsScene};
 
-use crate::painting::Painter;
 use crate::priced_rows::{PricedRows, is_inside};
+use crate::scenes::Scene;
 use crate::strokes::Draft;
 use scr_cells::{Look, NoMemory, Picture, grid_laws};
 use scr_prices::{
@@ -18,75 +19,66 @@ use scr_term::{Op, Profile, run_laws};
 
 impl Draft {
     // Inserts blanks into a row.
-    fn insert_chars(
-        &mut self,
-        painter: Painter,
-        profile: &Profile,
-        picture: &Picture,
-        row: u32,
-        slide: Slide,
-    ) -> Result<(), NoMemory>
-        requires painter { painter ≡ painter_of profile.now }
-        requires fits { Fits profile.now picture.now }
-        requires row { row < picture.now.rows }
-        requires slide { IsSlide picture.now.columns slide }
+    fn insert_chars(&mut self, scene: &Scene<'_>, row: u32, slide: Slide) -> Result<(), NoMemory>
+        requires scene { IsScene scene.now }
+        requires row { row < scene.now.picture.now.rows }
+        requires slide { IsSlide scene.now.picture.now.columns slide }
         requires inserts { slide.inserts ≡ true }
-        requires has { has profile.now (InsertChars slide.count) ≡ true }
-        ensures { OnOk result (SlidesRow profile.now picture.now row slide self.old self.new) }
+        requires has { has scene.now.profile.now (InsertChars slide.count) ≡ true }
+        ensures { OnOk result (SlidesRow scene.now.profile.now scene.now.picture.now row slide self.old self.new) }
     {
         run_laws();
         grid_laws::<Look>();
-        let _profile = profile.size();
-        let _picture = picture.size();
-        self.come_to(painter, profile, picture, row, slide.column)?;
-        self.add(profile, Op::InsertChars(slide.count), self.spot, self.pen)
+        let _profile = scene.profile.size();
+        let _picture = scene.picture.size();
+        self.come_to(scene, row, slide.column)?;
+        self.add(
+            scene.profile,
+            Op::InsertChars(slide.count),
+            self.spot,
+            self.pen,
+        )
     }
 
     // Deletes characters of a row.
-    fn delete_chars(
-        &mut self,
-        painter: Painter,
-        profile: &Profile,
-        picture: &Picture,
-        row: u32,
-        slide: Slide,
-    ) -> Result<(), NoMemory>
-        requires painter { painter ≡ painter_of profile.now }
-        requires fits { Fits profile.now picture.now }
-        requires row { row < picture.now.rows }
-        requires slide { IsSlide picture.now.columns slide }
+    fn delete_chars(&mut self, scene: &Scene<'_>, row: u32, slide: Slide) -> Result<(), NoMemory>
+        requires scene { IsScene scene.now }
+        requires row { row < scene.now.picture.now.rows }
+        requires slide { IsSlide scene.now.picture.now.columns slide }
         requires deletes { slide.inserts ≡ false }
-        requires has { has profile.now (DeleteChars slide.count) ≡ true }
-        ensures { OnOk result (SlidesRow profile.now picture.now row slide self.old self.new) }
+        requires has { has scene.now.profile.now (DeleteChars slide.count) ≡ true }
+        ensures { OnOk result (SlidesRow scene.now.profile.now scene.now.picture.now row slide self.old self.new) }
     {
         run_laws();
         grid_laws::<Look>();
-        let _profile = profile.size();
-        let _picture = picture.size();
-        self.come_to(painter, profile, picture, row, slide.column)?;
-        self.add(profile, Op::DeleteChars(slide.count), self.spot, self.pen)
+        let _profile = scene.profile.size();
+        let _picture = scene.picture.size();
+        self.come_to(scene, row, slide.column)?;
+        self.add(
+            scene.profile,
+            Op::DeleteChars(slide.count),
+            self.spot,
+            self.pen,
+        )
     }
 
     // Slides characters of a row.
     pub(crate) fn slide(
         &mut self,
-        painter: Painter,
-        profile: &Profile,
-        picture: &Picture,
+        scene: &Scene<'_>,
         row: u32,
         slide: Slide,
     ) -> Result<(), NoMemory>
-        requires painter { painter ≡ painter_of profile.now }
-        requires fits { Fits profile.now picture.now }
-        requires row { row < picture.now.rows }
-        requires slide { IsSlide picture.now.columns slide }
-        requires has { has profile.now (op_of slide) ≡ true }
-        ensures { OnOk result (SlidesRow profile.now picture.now row slide self.old self.new) }
+        requires scene { IsScene scene.now }
+        requires row { row < scene.now.picture.now.rows }
+        requires slide { IsSlide scene.now.picture.now.columns slide }
+        requires has { has scene.now.profile.now (op_of slide) ≡ true }
+        ensures { OnOk result (SlidesRow scene.now.profile.now scene.now.picture.now row slide self.old self.new) }
     {
         if slide.inserts {
-            self.insert_chars(painter, profile, picture, row, slide)
+            self.insert_chars(scene, row, slide)
         } else {
-            self.delete_chars(painter, profile, picture, row, slide)
+            self.delete_chars(scene, row, slide)
         }
     }
 }
@@ -94,9 +86,7 @@ impl Draft {
 // The slide of a row that is worth sending, if there is one. The row shows `looks`; `runs` are all
 // of its runs over them.
 pub(crate) fn slide_of(
-    painter: Painter,
-    profile: &Profile,
-    picture: &Picture,
+    scene: &Scene<'_>,
     cursor: &Cursor,
     row: u32,
     looks: &[Look],
@@ -104,15 +94,15 @@ pub(crate) fn slide_of(
     room: &mut Vec<Look>,
 ) -> Result<Option<Slide>, NoMemory>
     ensures slide { IfOk result (λ slide. IfSome slide (IsSlide (length looks.now))) }
-    ensures has { IfOk result (λ slide. IfSome slide (λ slide. has profile.now (op_of slide) ≡ true)) }
+    ensures has { IfOk result (λ slide. IfSome slide (λ slide. has scene.now.profile.now (op_of slide) ≡ true)) }
 {
-    if !are_wide(looks, runs) || !can_slide_some(profile.prices()) {
+    if !are_wide(looks, runs) || !can_slide_some(scene.profile.prices()) {
         return Ok(None);
     }
-    let prices = PricedRows::new(painter, profile, picture);
+    let prices = PricedRows::new(scene);
     let part = DifferingRow::of(prices.chooser(), runs);
     let slide = cheapest_slide(&prices, cursor, row, looks, part, room)?;
-    Ok(if_there(profile, looks, slide))
+    Ok(if_there(scene.profile, looks, slide))
 }
 
 // A slide, if it is one of a row of looks and the terminal has its operation.

@@ -7,12 +7,13 @@ ghost use Rattle.scr_term.specs.Operations.Texts.{all_bytes, has};
 ghost use Rattle.scr_plan.specs.Code.Drafts.{Covers, IsAdded, IsPaid, KeepsAll, KeepsEvery, in_part};
 ghost use Rattle.scr_plan.specs.Code.Painters.{painter_begins, painter_look, painter_of};
 ghost use Rattle.scr_plan.specs.Scratch.{Fits};
+ghost use Rattle.scr_plan.specs.Code.Scenes.{IsScene};
 
 use crate::joining::{price_of, price_of_one, spot_after};
 use crate::looking::cell_in;
-use crate::painting::Painter;
+use crate::scenes::Scene;
 use scr_cells::{Cell, Look, NoMemory, Pen, Picture, grid_laws};
-use scr_prices::Cursor;
+use scr_prices::{Cursor, Target};
 use scr_term::{Op, Profile, Spot, profiles_have, run_laws};
 use scr_terminal::{moved_by, turned};
 
@@ -36,7 +37,8 @@ impl Draft {
     ) -> Result<(), NoMemory>
         ensures { OnOk result (IsAdded profile.now self.old self.new (op ∷ []) spot pen) }
     {
-        self.add_priced(profile, op, price_of_one(profile, op), spot, pen)
+        let price = price_of_one(profile, op);
+        self.add_priced(profile, op, price, &Cursor { spot, pen })
     }
 
     // Adds an operation of `price` bytes that leads to this spot and pen.
@@ -45,17 +47,16 @@ impl Draft {
         profile: &Profile,
         op: Op,
         price: usize,
-        spot: Spot,
-        pen: Pen,
+        to: &Cursor,
     ) -> Result<(), NoMemory>
         requires { has profile.now op ≡ true → price ≡ length (all_bytes profile.now (op ∷ [])) }
-        ensures { OnOk result (IsAdded profile.now self.old self.new (op ∷ []) spot pen) }
+        ensures { OnOk result (IsAdded profile.now self.old self.new (op ∷ []) to.now.spot to.now.pen) }
     {
         let _size = profile.size();
         self.ops.push(op)?;
         self.bytes = self.bytes.saturating_add(price);
-        self.spot = spot;
-        self.pen = pen;
+        self.spot = to.spot;
+        self.pen = to.pen;
         Ok(())
     }
 
@@ -69,7 +70,10 @@ impl Draft {
             return Ok(());
         };
         match moved_by(profile, self.spot, self.pen, op) {
-            Some(spot) => self.add_priced(profile, op, price, spot, self.pen),
+            Some(spot) => {
+                let pen = self.pen;
+                self.add_priced(profile, op, price, &Cursor { spot, pen })
+            }
             None => Ok(()),
         }
     }
@@ -89,27 +93,23 @@ impl Draft {
     // Paints columns `from..end` of a row.
     pub(crate) fn write(
         &mut self,
-        painter: Painter,
-        profile: &Profile,
-        picture: &Picture,
+        scene: &Scene<'_>,
         row: u32,
         from: u32,
         end: u32,
     ) -> Result<(), NoMemory>
-        requires painter { painter ≡ painter_of profile.now }
-        requires fits { Fits profile.now picture.now }
-        requires row { row < picture.now.rows }
-        requires end { end ≤ picture.now.columns }
-        ensures { OnOk result (Covers profile.now picture.now (in_part row from end) self.old self.new) }
+        requires scene { IsScene scene.now }
+        requires row { row < scene.now.picture.now.rows }
+        requires end { end ≤ scene.now.picture.now.columns }
+        ensures { OnOk result (Covers scene.now.profile.now scene.now.picture.now (in_part row from end) self.old self.new) }
     {
         if from >= end {
             return Ok(());
         }
-        let _size = picture.size();
-        let cells = picture.row(row);
+        let _size = scene.picture.size();
         let mut column = from;
         while column < end {
-            column = self.write_alike(painter, profile, picture, row, cells, column, end)?;
+            column = self.write_alike(scene, row, column, end)?;
         }
         Ok(())
     }
@@ -119,29 +119,25 @@ impl Draft {
     // Returns where to go on.
     fn write_alike(
         &mut self,
-        painter: Painter,
-        profile: &Profile,
-        picture: &Picture,
+        scene: &Scene<'_>,
         row: u32,
-        cells: &[Cell],
         column: u32,
         end: u32,
     ) -> Result<u32, NoMemory>
-        requires painter { painter ≡ painter_of profile.now }
-        requires fits { Fits profile.now picture.now }
-        requires row { row < picture.now.rows }
-        requires cells { cells.now ≡ grid_row picture.now.lines row }
+        requires scene { IsScene scene.now }
+        requires row { row < scene.now.picture.now.rows }
         requires column { column < end }
-        requires end { end ≤ picture.now.columns }
+        requires end { end ≤ scene.now.picture.now.columns }
         ensures more { IfOk result (λ next. column < next) }
         ensures end { IfOk result (λ next. next ≤ end) }
-        ensures covers { IfOk result (λ next. Covers profile.now picture.now (in_part row column next) self.old self.new) }
+        ensures covers { IfOk result (λ next. Covers scene.now.profile.now scene.now.picture.now (in_part row column next) self.old self.new) }
     {
-        let _size = picture.size();
-        let (_, pen) = painter.seen_in(picture, cells, column);
-        let next = painter.alike_end(picture, cells, column, end);
-        self.begin_unless_there(painter, profile, picture, row, column, pen)?;
-        self.put_each(painter, profile, picture, row, cells, column, next)?;
+        let _size = scene.picture.size();
+        let cells = scene.picture.row(row);
+        let (_, pen) = scene.seen_in(cells, column);
+        let next = scene.alike_end(cells, column, end);
+        self.begin_unless_there(scene, &Target { row, column, pen })?;
+        self.put_each(scene, row, column, next)?;
         Ok(next)
     }
 
@@ -149,29 +145,25 @@ impl Draft {
     // the current pen.
     fn put_each(
         &mut self,
-        painter: Painter,
-        profile: &Profile,
-        picture: &Picture,
+        scene: &Scene<'_>,
         row: u32,
-        cells: &[Cell],
         column: u32,
         end: u32,
     ) -> Result<(), NoMemory>
-        requires painter { painter ≡ painter_of profile.now }
-        requires fits { Fits profile.now picture.now }
-        requires row { row < picture.now.rows }
-        requires cells { cells.now ≡ grid_row picture.now.lines row }
+        requires scene { IsScene scene.now }
+        requires row { row < scene.now.picture.now.rows }
         requires column { column < end }
-        requires end { end ≤ picture.now.columns }
+        requires end { end ≤ scene.now.picture.now.columns }
         requires spot { self.old.spot ≡ At row column }
-        requires pen { (c : ℕ) → column ≤ c → c < end → self.old.pen ≡ (painter_look painter picture.now (row, c)).pen }
-        ensures { OnOk result (Covers profile.now picture.now (in_part row column end) self.old self.new) }
+        requires pen { (c : ℕ) → column ≤ c → c < end → self.old.pen ≡ (painter_look scene.now.painter scene.now.picture.now (row, c)).pen }
+        ensures { OnOk result (Covers scene.now.profile.now scene.now.picture.now (in_part row column end) self.old self.new) }
     {
         run_laws();
         profiles_have();
         grid_laws::<Look>();
-        let size = profile.size();
-        let _picture = picture.size();
+        let size = scene.profile.size();
+        let _picture = scene.picture.size();
+        let cells = scene.picture.row(row);
         self.ops.reserve((end - column) as usize)?;
         for place in column..end {
             self.ops
@@ -185,71 +177,46 @@ impl Draft {
     // Adds what leads to a place with the pen that is seen there, unless the cursor is there and
     // the pen is on.
     #[inline(always)]
-    fn begin_unless_there(
-        &mut self,
-        painter: Painter,
-        profile: &Profile,
-        picture: &Picture,
-        row: u32,
-        column: u32,
-        pen: Pen,
-    ) -> Result<(), NoMemory>
-        requires painter { painter ≡ painter_of profile.now }
-        requires fits { Fits profile.now picture.now }
-        requires row { row < picture.now.rows }
-        requires column { column < picture.now.columns }
-        requires pen { pen ≡ (painter_look painter picture.now (row, column)).pen }
-        ensures keeps { OnOk result (KeepsAll profile.now picture.now self.old self.new) }
-        ensures spot { OnOk result (self.new.spot ≡ At row column) }
-        ensures pen { OnOk result (self.new.pen ≡ pen) }
+    fn begin_unless_there(&mut self, scene: &Scene<'_>, to: &Target) -> Result<(), NoMemory>
+        requires scene { IsScene scene.now }
+        requires row { to.now.row < scene.now.picture.now.rows }
+        requires column { to.now.column < scene.now.picture.now.columns }
+        requires pen { to.now.pen ≡ (painter_look scene.now.painter scene.now.picture.now (to.now.row, to.now.column)).pen }
+        ensures keeps { OnOk result (KeepsAll scene.now.profile.now scene.now.picture.now self.old self.new) }
+        ensures spot { OnOk result (self.new.spot ≡ At to.now.row to.now.column) }
+        ensures pen { OnOk result (self.new.pen ≡ to.now.pen) }
     {
-        if self.spot == Spot::At(row, column) && self.pen == pen {
+        if self.spot == Spot::At(to.row, to.column) && self.pen == to.pen {
             return Ok(());
         }
-        self.begin(painter, profile, picture, row, column, pen)
+        self.begin(scene, to)
     }
 
     // Adds what leads to a place with the pen that is seen there, wherever the cursor is.
     #[inline(never)]
-    fn begin(
-        &mut self,
-        painter: Painter,
-        profile: &Profile,
-        picture: &Picture,
-        row: u32,
-        column: u32,
-        pen: Pen,
-    ) -> Result<(), NoMemory>
-        requires painter { painter ≡ painter_of profile.now }
-        requires fits { Fits profile.now picture.now }
-        requires row { row < picture.now.rows }
-        requires column { column < picture.now.columns }
-        requires pen { pen ≡ (painter_look painter picture.now (row, column)).pen }
-        ensures keeps { OnOk result (KeepsAll profile.now picture.now self.old self.new) }
-        ensures spot { OnOk result (self.new.spot ≡ At row column) }
-        ensures pen { OnOk result (self.new.pen ≡ pen) }
+    fn begin(&mut self, scene: &Scene<'_>, to: &Target) -> Result<(), NoMemory>
+        requires scene { IsScene scene.now }
+        requires row { to.now.row < scene.now.picture.now.rows }
+        requires column { to.now.column < scene.now.picture.now.columns }
+        requires pen { to.now.pen ≡ (painter_look scene.now.painter scene.now.picture.now (to.now.row, to.now.column)).pen }
+        ensures keeps { OnOk result (KeepsAll scene.now.profile.now scene.now.picture.now self.old self.new) }
+        ensures spot { OnOk result (self.new.spot ≡ At to.now.row to.now.column) }
+        ensures pen { OnOk result (self.new.pen ≡ to.now.pen) }
     {
         run_laws();
         profiles_have();
-        let _size = profile.size();
-        let _picture = picture.size();
-        self.lead(painter, profile, row, column, pen)
+        let _size = scene.profile.size();
+        let _picture = scene.picture.size();
+        self.lead(scene, to)
     }
 
     // Adds what leads to a place with a pen.
-    pub(crate) fn lead(
-        &mut self,
-        painter: Painter,
-        profile: &Profile,
-        row: u32,
-        column: u32,
-        pen: Pen,
-    ) -> Result<(), NoMemory>
-        ensures { OnOk result (IsAdded profile.now self.old self.new (painter_begins painter (row, column) pen) (At row column) pen) }
+    pub(crate) fn lead(&mut self, scene: &Scene<'_>, to: &Target) -> Result<(), NoMemory>
+        ensures { OnOk result (IsAdded scene.now.profile.now self.old self.new (painter_begins scene.now.painter (to.now.row, to.now.column) to.now.pen) (At to.now.row to.now.column) to.now.pen) }
     {
         let begun = self.ops.len();
-        painter.begin(row, column, pen, &mut self.ops)?;
-        self.count(profile, begun, Spot::At(row, column), pen);
+        scene.painter.begin(to, &mut self.ops)?;
+        self.count(scene.profile, begun, Spot::At(to.row, to.column), to.pen);
         Ok(())
     }
 

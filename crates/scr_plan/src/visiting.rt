@@ -8,11 +8,12 @@ ghost use Rattle.scr_plan.specs.Code.Drafts.{Covers, KeepsAll, KeepsEvery, Leave
 ghost use Rattle.scr_plan.specs.Code.Painters.{painter_of};
 ghost use Rattle.scr_plan.specs.Scratch.{Fits};
 ghost use Rattle.scr_prices.specs.declared.runs.Run.{Run};
+ghost use Rattle.scr_plan.specs.Code.Scenes.{IsScene};
 
-use crate::painting::Painter;
+use crate::scenes::Scene;
 use crate::strokes::Draft;
 use scr_cells::{Look, NoMemory, Pen, Picture, grid_laws};
-use scr_prices::{Chooser, How, Path, Run, Stop, Way, cheapest_order};
+use scr_prices::{Chooser, How, Path, Run, Stop, Target, Way, cheapest_order};
 use scr_term::{Op, Profile, Spot, profiles_have, run_laws};
 use std::alloc::Global;
 
@@ -22,119 +23,92 @@ impl Draft {
     pub(crate) fn paint_all(
         &mut self,
         alloc: Global,
-        painter: Painter,
-        profile: &Profile,
-        picture: &Picture,
+        scene: &Scene<'_>,
         runs: &mut Vec<Run>,
         moved: bool,
     ) -> Result<(), NoMemory>
-        requires painter { painter ≡ painter_of profile.now }
-        requires fits { Fits profile.now picture.now }
-        ensures right { OnOk result (Leaves profile.now picture.now runs.old.items [] self.old self.new) }
-        ensures spot { OnOk result (IfSome picture.now.wish (λ place. self.new.spot ≡ At place.0 place.1)) }
+        requires scene { IsScene scene.now }
+        ensures right { OnOk result (Leaves scene.now.profile.now scene.now.picture.now runs.old.items [] self.old self.new) }
+        ensures spot { OnOk result (IfSome scene.now.picture.now.wish (λ place. self.new.spot ≡ At place.0 place.1)) }
     {
-        self.paint_runs(alloc, painter, profile, picture, runs, moved)?;
-        self.place(painter, profile, picture)
+        self.paint_runs(alloc, scene, runs, moved)?;
+        self.place(scene)
     }
 
     // Paints all runs in the cheapest order.
     fn paint_runs(
         &mut self,
         alloc: Global,
-        painter: Painter,
-        profile: &Profile,
-        picture: &Picture,
+        scene: &Scene<'_>,
         runs: &mut Vec<Run>,
         moved: bool,
     ) -> Result<(), NoMemory>
-        requires painter { painter ≡ painter_of profile.now }
-        requires fits { Fits profile.now picture.now }
-        ensures { OnOk result (Leaves profile.now picture.now runs.old.items [] self.old self.new) }
+        requires scene { IsScene scene.now }
+        ensures { OnOk result (Leaves scene.now.profile.now scene.now.picture.now runs.old.items [] self.old self.new) }
     {
         if runs.len() < 2 {
-            return self.visit_rest(painter, profile, picture, runs);
+            return self.visit_rest(scene, runs);
         }
-        let chooser = Chooser::new(profile, picture);
+        let chooser = Chooser::new(scene.profile, scene.picture);
         let stops = cheapest_order(alloc, &chooser, &self.cursor(), runs, moved)?;
-        self.visit_all(painter, profile, picture, runs, &stops)
+        self.visit_all(scene, runs, &stops)
     }
 
     // Visits these runs one after another, then all that are left.
     fn visit_all(
         &mut self,
-        painter: Painter,
-        profile: &Profile,
-        picture: &Picture,
+        scene: &Scene<'_>,
         runs: &mut Vec<Run>,
         stops: &[Stop],
     ) -> Result<(), NoMemory>
-        requires painter { painter ≡ painter_of profile.now }
-        requires fits { Fits profile.now picture.now }
-        ensures { OnOk result (Leaves profile.now picture.now runs.old.items [] self.old self.new) }
+        requires scene { IsScene scene.now }
+        ensures { OnOk result (Leaves scene.now.profile.now scene.now.picture.now runs.old.items [] self.old self.new) }
     {
-        self.visit_each(painter, profile, picture, runs, stops)?;
-        self.visit_rest(painter, profile, picture, runs)
+        self.visit_each(scene, runs, stops)?;
+        self.visit_rest(scene, runs)
     }
 
     // Visits these runs one after another.
     fn visit_each(
         &mut self,
-        painter: Painter,
-        profile: &Profile,
-        picture: &Picture,
+        scene: &Scene<'_>,
         runs: &mut Vec<Run>,
         stops: &[Stop],
     ) -> Result<(), NoMemory>
-        requires painter { painter ≡ painter_of profile.now }
-        requires fits { Fits profile.now picture.now }
-        ensures { OnOk result (Leaves profile.now picture.now runs.old.items runs.new.items self.old self.new) }
+        requires scene { IsScene scene.now }
+        ensures { OnOk result (Leaves scene.now.profile.now scene.now.picture.now runs.old.items runs.new.items self.old self.new) }
     {
-        let _size = picture.size();
+        let _size = scene.picture.size();
         for stop in stops {
-            self.visit_at(painter, profile, picture, runs, stop)?;
+            self.visit_at(scene, runs, stop)?;
         }
         Ok(())
     }
 
     // Visits the run with a number, if there is one, after which it does not wait any more.
-    fn visit_at(
-        &mut self,
-        painter: Painter,
-        profile: &Profile,
-        picture: &Picture,
-        runs: &mut [Run],
-        stop: &Stop,
-    ) -> Result<(), NoMemory>
-        requires painter { painter ≡ painter_of profile.now }
-        requires fits { Fits profile.now picture.now }
-        ensures { OnOk result (Leaves profile.now picture.now runs.old runs.new self.old self.new) }
+    fn visit_at(&mut self, scene: &Scene<'_>, runs: &mut [Run], stop: &Stop) -> Result<(), NoMemory>
+        requires scene { IsScene scene.now }
+        ensures { OnOk result (Leaves scene.now.profile.now scene.now.picture.now runs.old runs.new self.old self.new) }
     {
-        let _size = picture.size();
+        let _size = scene.picture.size();
         let number = stop.number as usize;
         if number >= runs.len() {
             return Ok(());
         }
         let run = run_at(runs, number);
-        self.visit(painter, profile, picture, run, stop.way)?;
+        self.visit(scene, run, stop.way)?;
         empty(runs, number);
         Ok(())
     }
 
     // Visits each run that is left, from the last.
-    fn visit_rest(
-        &mut self,
-        painter: Painter,
-        profile: &Profile,
-        picture: &Picture,
-        runs: &mut Vec<Run>,
-    ) -> Result<(), NoMemory>
-        requires painter { painter ≡ painter_of profile.now }
-        requires fits { Fits profile.now picture.now }
-        ensures { OnOk result (Leaves profile.now picture.now runs.old.items [] self.old self.new) }
+    fn visit_rest(&mut self, scene: &Scene<'_>, runs: &mut Vec<Run>) -> Result<(), NoMemory>
+        requires scene { IsScene scene.now }
+        ensures { OnOk result (Leaves scene.now.profile.now scene.now.picture.now runs.old.items [] self.old self.new) }
     {
-        let _size = picture.size();
+        let _size = scene.picture.size();
         while let Some(run) = runs.pop() {
-            self.visit(painter, profile, picture, run, None)?;
+            self.visit(scene, run, None)?;
         }
         Ok(())
     }
@@ -144,17 +118,14 @@ impl Draft {
     #[inline(always)]
     pub(crate) fn visit(
         &mut self,
-        painter: Painter,
-        profile: &Profile,
-        picture: &Picture,
+        scene: &Scene<'_>,
         run: Run,
         way: Option<Way>,
     ) -> Result<(), NoMemory>
-        requires painter { painter ≡ painter_of profile.now }
-        requires fits { Fits profile.now picture.now }
-        ensures { OnOk result (Covers profile.now picture.now (is_in run) self.old self.new) }
+        requires scene { IsScene scene.now }
+        ensures { OnOk result (Covers scene.now.profile.now scene.now.picture.now (is_in run) self.old self.new) }
     {
-        let size = picture.size();
+        let size = scene.picture.size();
         if run.row >= size.rows {
             return Ok(());
         }
@@ -162,68 +133,65 @@ impl Draft {
         if run.start >= end {
             return Ok(());
         }
-        self.visit_part(painter, profile, picture, run, end, way)
+        self.visit_part(scene, run, end, way)
     }
 
     // Paints the places of a run up to `end`, to which the way was chosen before or is now.
     #[inline(never)]
     fn visit_part(
         &mut self,
-        painter: Painter,
-        profile: &Profile,
-        picture: &Picture,
+        scene: &Scene<'_>,
         run: Run,
         end: u32,
         way: Option<Way>,
     ) -> Result<(), NoMemory>
-        requires painter { painter ≡ painter_of profile.now }
-        requires fits { Fits profile.now picture.now }
-        requires row { run.row < picture.now.rows }
+        requires scene { IsScene scene.now }
+        requires row { run.row < scene.now.picture.now.rows }
         requires start { run.start < end }
-        requires end { end ≤ picture.now.columns }
-        ensures { OnOk result (Covers profile.now picture.now (in_part run.row run.start end) self.old self.new) }
+        requires end { end ≤ scene.now.picture.now.columns }
+        ensures { OnOk result (Covers scene.now.profile.now scene.now.picture.now (in_part run.row run.start end) self.old self.new) }
     {
-        let _size = picture.size();
-        let path = self.path_by(painter, profile, picture, &run, way);
-        self.follow(painter, profile, picture, path, run.row, run.start, run.pen)?;
-        self.paint_run(painter, profile, picture, run, end)
+        let _size = scene.picture.size();
+        let path = self.path_by(scene, &run, way);
+        self.follow(
+            scene,
+            path,
+            &Target {
+                row: run.row,
+                column: run.start,
+                pen: run.pen,
+            },
+        )?;
+        self.paint_run(scene, run, end)
     }
 
     // The path of the chosen way, or the cheapest one to a run.
-    fn path_by(
-        &self,
-        painter: Painter,
-        profile: &Profile,
-        picture: &Picture,
-        run: &Run,
-        way: Option<Way>,
-    ) -> Path {
+    fn path_by(&self, scene: &Scene<'_>, run: &Run, way: Option<Way>) -> Path {
         match way {
             Some(way) => way.path,
-            None => self.path_to(painter, profile, picture, run.row, run.start, run.pen),
+            None => self.path_to(
+                scene,
+                &Target {
+                    row: run.row,
+                    column: run.start,
+                    pen: run.pen,
+                },
+            ),
         }
     }
 
     // Paints the places of a run up to `end`, in the run's way.
-    fn paint_run(
-        &mut self,
-        painter: Painter,
-        profile: &Profile,
-        picture: &Picture,
-        run: Run,
-        end: u32,
-    ) -> Result<(), NoMemory>
-        requires painter { painter ≡ painter_of profile.now }
-        requires fits { Fits profile.now picture.now }
-        requires row { run.row < picture.now.rows }
+    fn paint_run(&mut self, scene: &Scene<'_>, run: Run, end: u32) -> Result<(), NoMemory>
+        requires scene { IsScene scene.now }
+        requires row { run.row < scene.now.picture.now.rows }
         requires start { run.start < end }
-        requires end { end ≤ picture.now.columns }
-        ensures { OnOk result (Covers profile.now picture.now (in_part run.row run.start end) self.old self.new) }
+        requires end { end ≤ scene.now.picture.now.columns }
+        ensures { OnOk result (Covers scene.now.profile.now scene.now.picture.now (in_part run.row run.start end) self.old self.new) }
     {
         match run.how {
-            How::Write => self.write(painter, profile, picture, run.row, run.start, end),
-            How::EraseLine => self.erase_line(painter, profile, picture, run.row, run.start, end),
-            How::EraseChars => self.erase_chars(painter, profile, picture, run.row, run.start, end),
+            How::Write => self.write(scene, run.row, run.start, end),
+            How::EraseLine => self.erase_line(scene, run.row, run.start, end),
+            How::EraseChars => self.erase_chars(scene, run.row, run.start, end),
         }
     }
 
@@ -231,29 +199,26 @@ impl Draft {
     // it is seen blank; else writes columns `from..end`.
     fn erase_line(
         &mut self,
-        painter: Painter,
-        profile: &Profile,
-        picture: &Picture,
+        scene: &Scene<'_>,
         row: u32,
         from: u32,
         end: u32,
     ) -> Result<(), NoMemory>
-        requires painter { painter ≡ painter_of profile.now }
-        requires fits { Fits profile.now picture.now }
-        requires row { row < picture.now.rows }
+        requires scene { IsScene scene.now }
+        requires row { row < scene.now.picture.now.rows }
         requires from { from < end }
-        requires end { end ≤ picture.now.columns }
-        ensures { OnOk result (Covers profile.now picture.now (in_part row from end) self.old self.new) }
+        requires end { end ≤ scene.now.picture.now.columns }
+        ensures { OnOk result (Covers scene.now.profile.now scene.now.picture.now (in_part row from end) self.old self.new) }
     {
         run_laws();
         grid_laws::<Look>();
-        let _size = profile.size();
-        let _picture = picture.size();
-        let is_blank = painter.is_blank_from(picture, row, picture.row(row), from);
-        if is_blank && self.can_erase(profile, row, from, Op::EraseLine) {
-            self.add(profile, Op::EraseLine, self.spot, self.pen)
+        let _size = scene.profile.size();
+        let _picture = scene.picture.size();
+        let is_blank = scene.is_blank_from(row, scene.picture.row(row), from);
+        if is_blank && self.can_erase(scene.profile, row, from, Op::EraseLine) {
+            self.add(scene.profile, Op::EraseLine, self.spot, self.pen)
         } else {
-            self.write(painter, profile, picture, row, from, end)
+            self.write(scene, row, from, end)
         }
     }
 
@@ -261,30 +226,27 @@ impl Draft {
     // are seen blank; else writes them.
     fn erase_chars(
         &mut self,
-        painter: Painter,
-        profile: &Profile,
-        picture: &Picture,
+        scene: &Scene<'_>,
         row: u32,
         from: u32,
         end: u32,
     ) -> Result<(), NoMemory>
-        requires painter { painter ≡ painter_of profile.now }
-        requires fits { Fits profile.now picture.now }
-        requires row { row < picture.now.rows }
+        requires scene { IsScene scene.now }
+        requires row { row < scene.now.picture.now.rows }
         requires from { from < end }
-        requires end { end ≤ picture.now.columns }
-        ensures { OnOk result (Covers profile.now picture.now (in_part row from end) self.old self.new) }
+        requires end { end ≤ scene.now.picture.now.columns }
+        ensures { OnOk result (Covers scene.now.profile.now scene.now.picture.now (in_part row from end) self.old self.new) }
     {
         run_laws();
         grid_laws::<Look>();
-        let _size = profile.size();
-        let _picture = picture.size();
+        let _size = scene.profile.size();
+        let _picture = scene.picture.size();
         let op = Op::EraseChars(end - from);
-        let is_blank = painter.is_blank(picture, row, picture.row(row), from, end);
-        if is_blank && self.can_erase(profile, row, from, op) {
-            self.add(profile, op, self.spot, self.pen)
+        let is_blank = scene.is_blank(row, scene.picture.row(row), from, end);
+        if is_blank && self.can_erase(scene.profile, row, from, op) {
+            self.add(scene.profile, op, self.spot, self.pen)
         } else {
-            self.write(painter, profile, picture, row, from, end)
+            self.write(scene, row, from, end)
         }
     }
 
@@ -298,70 +260,62 @@ impl Draft {
     }
 
     // Leads the cursor to where the picture wants it, with the current pen.
-    fn place(
-        &mut self,
-        painter: Painter,
-        profile: &Profile,
-        picture: &Picture,
-    ) -> Result<(), NoMemory>
-        requires painter { painter ≡ painter_of profile.now }
-        requires fits { Fits profile.now picture.now }
-        ensures keeps { OnOk result (KeepsAll profile.now picture.now self.old self.new) }
-        ensures spot { OnOk result (IfSome picture.now.wish (λ place. self.new.spot ≡ At place.0 place.1)) }
+    fn place(&mut self, scene: &Scene<'_>) -> Result<(), NoMemory>
+        requires scene { IsScene scene.now }
+        ensures keeps { OnOk result (KeepsAll scene.now.profile.now scene.now.picture.now self.old self.new) }
+        ensures spot { OnOk result (IfSome scene.now.picture.now.wish (λ place. self.new.spot ≡ At place.0 place.1)) }
     {
-        let _size = picture.size();
-        match picture.wish() {
-            Some((row, column)) => self.place_at(painter, profile, picture, row, column),
+        let _size = scene.picture.size();
+        match scene.picture.wish() {
+            Some((row, column)) => self.place_at(scene, row, column),
             None => Ok(()),
         }
     }
 
     // Leads the cursor to a place, with the current pen if that works.
-    fn place_at(
-        &mut self,
-        painter: Painter,
-        profile: &Profile,
-        picture: &Picture,
-        row: u32,
-        column: u32,
-    ) -> Result<(), NoMemory>
-        requires painter { painter ≡ painter_of profile.now }
-        requires fits { Fits profile.now picture.now }
-        requires row { row < picture.now.rows }
-        requires column { column < picture.now.columns }
-        ensures keeps { OnOk result (KeepsAll profile.now picture.now self.old self.new) }
+    fn place_at(&mut self, scene: &Scene<'_>, row: u32, column: u32) -> Result<(), NoMemory>
+        requires scene { IsScene scene.now }
+        requires row { row < scene.now.picture.now.rows }
+        requires column { column < scene.now.picture.now.columns }
+        ensures keeps { OnOk result (KeepsAll scene.now.profile.now scene.now.picture.now self.old self.new) }
         ensures spot { OnOk result (self.new.spot ≡ At row column) }
     {
-        self.reach(painter, profile, picture, row, column, self.pen)?;
+        self.reach(
+            scene,
+            &Target {
+                row,
+                column,
+                pen: self.pen,
+            },
+        )?;
         if self.spot == Spot::At(row, column) {
             return Ok(());
         }
-        self.jump(painter, profile, picture, row, column)
+        self.jump(scene, row, column)
     }
 
     // Leads the cursor to a place with a plain pen, from wherever it is.
     #[inline(never)]
-    pub(crate) fn jump(
-        &mut self,
-        painter: Painter,
-        profile: &Profile,
-        picture: &Picture,
-        row: u32,
-        column: u32,
-    ) -> Result<(), NoMemory>
-        requires painter { painter ≡ painter_of profile.now }
-        requires fits { Fits profile.now picture.now }
-        requires row { row < picture.now.rows }
-        requires column { column < picture.now.columns }
-        ensures keeps { OnOk result (KeepsEvery profile.now self.old self.new) }
+    pub(crate) fn jump(&mut self, scene: &Scene<'_>, row: u32, column: u32) -> Result<(), NoMemory>
+        requires scene { IsScene scene.now }
+        requires row { row < scene.now.picture.now.rows }
+        requires column { column < scene.now.picture.now.columns }
+        ensures keeps { OnOk result (KeepsEvery scene.now.profile.now self.old self.new) }
         ensures spot { OnOk result (self.new.spot ≡ At row column) }
         ensures pen { OnOk result (self.new.pen ≡ plain_pen) }
     {
         run_laws();
         profiles_have();
-        let _size = profile.size();
-        let _picture = picture.size();
-        self.lead(painter, profile, row, column, Pen::plain())
+        let _size = scene.profile.size();
+        let _picture = scene.picture.size();
+        self.lead(
+            scene,
+            &Target {
+                row,
+                column,
+                pen: Pen::plain(),
+            },
+        )
     }
 }
 

@@ -31,5 +31,5 @@ pub use runs::{How, Run};
 pub use shifts::{Shift, can_shift_some, cheapest_shift};
 pub use slides::{DifferingRow, Slide, are_wide, can_slide_some, cheapest_slide};
 pub use turns::{Turn, cheapest_turn};
-pub use ways::{Chooser, Cursor, Path, Stop, Way};
+pub use ways::{Chooser, Cursor, Path, Stop, Target, Way};
 pub use wipings::{Wiping, cheapest_wiping};

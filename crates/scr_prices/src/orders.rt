@@ -93,7 +93,7 @@ impl<'a> ToPaint<'a> {
         let mut walk = PricedWalk::from(cursor);
         let mut number = 0u32;
         for run in self.runs {
-            let way = self.chooser.way(&walk.cursor, run.row, run.start, run.pen);
+            let way = self.chooser.way(&walk.cursor, &run.target());
             walk.paint_after(self.chooser, number, run, way.price);
             if walk.price >= limit {
                 return false;
@@ -245,7 +245,7 @@ impl<'a> ToPaint<'a> {
     fn way_to(&self, walk: &PricedWalk, links: &Links, number: u32, run: &Run) -> Way {
         match links.way_after(number, walk.last) {
             Some(way) => way,
-            None => self.chooser.way(&walk.cursor, run.row, run.start, run.pen),
+            None => self.chooser.way(&walk.cursor, &run.target()),
         }
     }
 

@@ -1,5 +1,6 @@
 //! Runs: places of a row that one visit paints with one pen.
 
+use crate::ways::Target;
 use scr_cells::Pen;
 
 /// How the places of a run are painted.
@@ -26,4 +27,16 @@ pub struct Run {
     pub pen: Pen,
     /// How they are painted.
     pub how: How,
+}
+
+impl Run {
+    // Its first place, with its pen.
+    #[inline(always)]
+    pub(crate) fn target(&self) -> Target {
+        Target {
+            row: self.row,
+            column: self.start,
+            pen: self.pen,
+        }
+    }
 }

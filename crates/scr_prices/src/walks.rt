@@ -4,7 +4,7 @@ use crate::least_motions::LeastMotions;
 use crate::links::{Links, NONE};
 use crate::orders::run_at;
 use crate::runs::Run;
-use crate::ways::{Chooser, Cursor};
+use crate::ways::{Chooser, Cursor, Target};
 
 // What an order is made for: the runs, by rows, where the cursor is wanted after them, and whether
 // something was moved before. If so, the next update is likely to move something too.
@@ -59,9 +59,7 @@ impl PricedWalk {
     pub(crate) fn paint(&mut self, to_paint: &ToPaint<'_>, links: &mut Links, number: u32) {
         links.set_ordered(self.count, number);
         let run = run_at(to_paint.runs, number);
-        let way = to_paint
-            .chooser
-            .way(&self.cursor, run.row, run.start, run.pen);
+        let way = to_paint.chooser.way(&self.cursor, &run.target());
         links.set_way(number, self.last, way);
         self.paint_after(to_paint.chooser, number, &run, way.price);
     }
@@ -77,9 +75,14 @@ impl PricedWalk {
         let price = self.price.saturating_add(turn);
         match to_paint.wish {
             Some((row, column)) => {
-                let way = to_paint
-                    .chooser
-                    .way(&self.cursor, row, column, self.cursor.pen);
+                let way = to_paint.chooser.way(
+                    &self.cursor,
+                    &Target {
+                        row,
+                        column,
+                        pen: self.cursor.pen,
+                    },
+                );
                 price.saturating_add(way.price)
             }
             None => price,

@@ -16,6 +16,17 @@ pub struct Cursor {
     pub pen: Pen,
 }
 
+/// A place that the cursor is to come to, with a pen.
+#[derive(Clone, Copy)]
+pub struct Target {
+    /// Its row.
+    pub row: u32,
+    /// Its column.
+    pub column: u32,
+    /// The pen.
+    pub pen: Pen,
+}
+
 impl Cursor {
     // The row that the cursor is in.
     pub(crate) fn row(&self) -> u32 {
@@ -97,21 +108,21 @@ impl<'a> Chooser<'a> {
     }
 
     /// The cheapest way to a place with a pen.
-    pub fn way(&self, cursor: &Cursor, row: u32, column: u32, pen: Pen) -> Way {
-        let moving = self.moving(cursor, row, column, pen);
-        if cursor.row() == row {
-            moving.or(self.writing(cursor, row, column, pen, moving.price))
+    pub fn way(&self, cursor: &Cursor, to: &Target) -> Way {
+        let moving = self.moving(cursor, to);
+        if cursor.row() == to.row {
+            moving.or(self.writing(cursor, to, moving.price))
         } else {
-            moving.or(self.moving_to_write(cursor, row, column, pen, moving.price))
+            moving.or(self.moving_to_write(cursor, to, moving.price))
         }
     }
 
     // By a motion and a turn.
-    fn moving(&self, cursor: &Cursor, row: u32, column: u32, pen: Pen) -> Way {
-        let motion = cheapest_motion(self.prices, cursor.spot, row, column);
+    fn moving(&self, cursor: &Cursor, to: &Target) -> Way {
+        let motion = cheapest_motion(self.prices, cursor.spot, to.row, to.column);
         Way {
             path: Path::Moving(motion),
-            price: self.price_of_moving(cursor.pen, motion, pen),
+            price: self.price_of_moving(cursor.pen, motion, to.pen),
         }
     }
 
@@ -144,15 +155,15 @@ impl<'a> Chooser<'a> {
     }
 
     // By writing the places of the row in between, if this costs less than the limit.
-    fn writing(&self, cursor: &Cursor, row: u32, column: u32, pen: Pen, limit: u32) -> Option<Way> {
+    fn writing(&self, cursor: &Cursor, to: &Target, limit: u32) -> Option<Way> {
         let Spot::At(_, from) = cursor.spot else {
             return None;
         };
-        if from >= column || column - from >= limit {
+        if from >= to.column || to.column - from >= limit {
             return None;
         }
-        let price = (column - from).saturating_add(self.price_of_turn(cursor.pen, pen));
-        if price >= limit || !self.are_seen_with(cursor.pen, row, from, column) {
+        let price = (to.column - from).saturating_add(self.price_of_turn(cursor.pen, to.pen));
+        if price >= limit || !self.are_seen_with(cursor.pen, to.row, from, to.column) {
             return None;
         }
         Some(Way {
@@ -162,22 +173,15 @@ impl<'a> Chooser<'a> {
     }
 
     // By writing the places before it in its row, if this costs less than the limit.
-    fn moving_to_write(
-        &self,
-        cursor: &Cursor,
-        row: u32,
-        column: u32,
-        pen: Pen,
-        limit: u32,
-    ) -> Option<Way> {
-        if column == 0 || column > self.jump || column >= limit {
+    fn moving_to_write(&self, cursor: &Cursor, to: &Target, limit: u32) -> Option<Way> {
+        if to.column == 0 || to.column > self.jump || to.column >= limit {
             return None;
         }
-        let motion = cheapest_motion(self.prices, cursor.spot, row, 0);
+        let motion = cheapest_motion(self.prices, cursor.spot, to.row, 0);
         let price = self
-            .price_of_moving(cursor.pen, motion, pen)
-            .saturating_add(column);
-        if price >= limit || !self.are_seen_with(pen, row, 0, column) {
+            .price_of_moving(cursor.pen, motion, to.pen)
+            .saturating_add(to.column);
+        if price >= limit || !self.are_seen_with(to.pen, to.row, 0, to.column) {
             return None;
         }
         Some(Way {

@@ -4,7 +4,7 @@ use crate::blanks::is_blank;
 use crate::orders::run_at;
 use crate::runs::Run;
 use crate::stretches::{least_on_blanks, price_on_blanks};
-use crate::ways::{Chooser, Cursor};
+use crate::ways::{Chooser, Cursor, Target};
 use scr_cells::Pen;
 use scr_term::Op;
 
@@ -190,7 +190,14 @@ impl Upwards {
 
 // The cheapest erasure of a row and all below it, and its price together with what leads to it.
 fn erasure(chooser: &Chooser<'_>, cursor: &Cursor, row: u32) -> (Op, u32) {
-    let way = chooser.way(cursor, row, 0, Pen::plain());
+    let way = chooser.way(
+        cursor,
+        &Target {
+            row,
+            column: 0,
+            pen: Pen::plain(),
+        },
+    );
     let price = way.price.saturating_add(chooser.prices.of(Op::EraseBelow));
     if row > 0 {
         return (Op::EraseBelow, price);

@@ -7,6 +7,6 @@ use Rattle.scr_plan.proofs.joined_changes.differs_in.Goals as goal
 
 pub returns-clause-none : goal.returns-clause-none
 returns-clause-none c = λ past k wide.
-    looked_same (range_by c.args.by) c.args.profile.now c.args.memory.now c.args.wanted.now c.requires.same c.requires.size c.requires.known c.args.painter c.requires.painter c.args.row c.in-Some.from c.in-Some.last c.unlike_from.result c.looks.result.now
+    looked_same (range_by c.args.update.now.by) c.args.update.now.scene.profile.now c.args.update.now.memory.now c.args.update.now.wanted.now c.requires.update.same c.requires.update.size c.requires.known c.args.update.now.scene.painter c.requires.update.scene.painter c.args.row c.in-Some.from c.in-Some.last c.unlike_from.result c.looks.result.now
     c.requires.row (sym c.in_row.ensures.value ∙ c.in-Some.is) c.looks.ensures.cells (grind (arith, nat_tests))
-    (λ n low below. ap (λ picture. row_differs c.args.painter picture (Some c.looks.result.now) (c.args.row, n)) (sym c.picture-picture.ensures) ∙ c.unlike_from.ensures.same n low below) k wide
+    (λ n low below. ap (λ picture. row_differs c.args.update.now.scene.painter picture (Some c.looks.result.now) (c.args.row, n)) (sym c.requires.update.picture) ∙ c.unlike_from.ensures.same n low below) k wide

@@ -8,9 +8,9 @@ use Rattle.scr_plan.proofs.planning.bytes_of_joined.Goals as goal
 
 pub returns : goal.returns
 returns c =
-    let profile = c.args.profile.now in
-    let picture = c.args.wanted.now.picture in
-    let memory = c.args.memory.now in
+    let profile = c.args.update.now.scene.profile.now in
+    let picture = c.args.update.now.wanted.now.picture in
+    let memory = c.args.update.now.memory.now in
     let all = resets profile ++ joined_places profile picture memory ++ resets profile ++ places_cursor picture.wish in
     subst (λ ops. c.join_changes.new.self.bytes ≤ counted_up (length (all_bytes profile ops)))
     (sym (ap (without_idle profile memory.state) (joined_assoc (resets profile) (joined_places profile picture memory) (resets profile) (places_cursor picture.wish)))

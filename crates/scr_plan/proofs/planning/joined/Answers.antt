@@ -6,9 +6,9 @@ use Rattle.scr_plan.proofs.planning.joined.Goals as goal
 
 pub returns : goal.returns
 returns c =
-    let profile = c.args.profile.now in
-    let picture = c.args.wanted.now.picture in
-    let memory = c.args.memory.now in
+    let profile = c.args.update.now.scene.profile.now in
+    let picture = c.args.update.now.wanted.now.picture in
+    let memory = c.args.update.now.memory.now in
     let all = resets profile ++ joined_places profile picture memory ++ resets profile ++ places_cursor picture.wish in
     let end = c.in_ok-join_changes.ensures.all refl true c.in_ok-ops.ops.items memory.state (resets profile) c.in_ok-joining.ensures in
     end.ops refl

@@ -8,9 +8,9 @@ use Rattle.scr_plan.proofs.planning.joined_anew.Goals as goal
 
 pub returns : goal.returns
 returns c =
-    let profile = c.args.profile.now in
-    let picture = c.args.picture.now in
+    let profile = c.args.scene.now.profile.now in
+    let picture = c.args.scene.now.picture.now in
     let end = c.in_ok-join_all.ensures true c.push.new.self.items (blank_state profile.rows profile.columns) [] c.on_blanks-joining.ensures in
     let first : c.push.new.self.items ≡ resets profile ++ Clear ∷ [] =
-    c.in_ok-push.ensures.items ∙ ap (λ ops. ops ++ Clear ∷ []) (c.in_ok-reset.ensures ∙ ap (λ ops. ops ++ painter_resets c.args.painter) c.in_ok-ops.ensures.items ∙ ap painter_resets c.requires.painter) in
+    c.in_ok-push.ensures.items ∙ ap (λ ops. ops ++ Clear ∷ []) (c.in_ok-reset.ensures ∙ ap (λ ops. ops ++ painter_resets c.args.scene.now.painter) c.in_ok-ops.ensures.items ∙ ap painter_resets c.requires.scene.painter) in
     end.ops refl ∙ ap (λ ops. ops ++ without_idle profile (blank_state profile.rows profile.columns) (joined_places profile picture (cleared picture) ++ resets profile ++ places_cursor picture.wish)) first

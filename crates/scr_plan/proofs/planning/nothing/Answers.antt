@@ -6,5 +6,5 @@ use Rattle.scr_plan.proofs.planning.nothing.Goals as goal
 pub returns : goal.returns
 returns c =
     let none : c.new.result.items ≡ [] = search rules in
-    subst (IsPlan c.args.profile.now c.args.memory.now c.args.wanted.now) (sym none)
-    (never_plan c.args.profile.now c.args.memory.now c.args.wanted.now c.requires.due c.requires.pen)
+    subst (IsPlan c.args.update.now.scene.profile.now c.args.update.now.memory.now c.args.update.now.wanted.now) (sym none)
+    (never_plan c.args.update.now.scene.profile.now c.args.update.now.memory.now c.args.update.now.wanted.now c.requires.due c.requires.pen)

@@ -7,14 +7,14 @@ use Rattle.scr_plan.proofs.planning.partly_if_shorter.Goals as goal
 
 pub returns-then-is_worth : goal.returns-then-is_worth
 returns-then-is_worth c =
-    let profile = c.args.profile.now in
-    let memory = c.args.memory.now in
-    let virtual = c.args.wanted.now in
+    let profile = c.args.update.now.scene.profile.now in
+    let memory = c.args.update.now.memory.now in
+    let virtual = c.args.update.now.wanted.now in
     let n = length c.in-Some.draft.ops.items in
-    partly_plan c.run_laws.ensures c.profiles_have.ensures c.memory_runs.ensures c.grid_laws.ensures profile c.size-profile.ensures.profile virtual c.size-size.ensures.screen.picture c.requires.fits memory
+    partly_plan c.run_laws.ensures c.profiles_have.ensures c.memory_runs.ensures c.grid_laws.ensures profile c.size-profile.ensures.profile virtual c.size-size.ensures.screen.picture c.requires.update.fits memory
     (record {
-      state = state_of profile memory c.size-memory.ensures.memory (c.requires.size.rows ∙ c.requires.fits.rows) (c.requires.size.columns ∙ c.requires.fits.columns) c.requires.pen;
-      high = c.requires.size.known_rows ∙ c.requires.fits.rows;
+      state = state_of profile memory c.size-memory.ensures.memory (c.requires.update.size.rows ∙ c.requires.update.fits.rows) (c.requires.update.size.columns ∙ c.requires.update.fits.columns) c.requires.pen;
+      high = c.requires.update.size.known_rows ∙ c.requires.update.fits.rows;
     })
     c.requires.due c.requires.calm c.in-Some.draft (subst (λ draft. IfSome draft (IsPartly profile virtual.picture memory)) c.in-Some.is c.in_ok-draft.ensures) c.args.whole c.requires.plan
     c.price_of.result (c.is_worth.ensures.less (search rules)) (c.is_worth.ensures.exact (search rules))

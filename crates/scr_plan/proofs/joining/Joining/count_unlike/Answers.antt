@@ -7,19 +7,19 @@ use Rattle.scr_plan.proofs.joining.Joining.count_unlike.Goals as goal
 
 pub returns-clause-all : goal.returns-clause-all
 returns-clause-all c =
-    let picture = c.args.picture.now in
-    let before = option_map (λ looks. looks.now) c.args.before in
+    let picture = c.args.scene.now.picture.now in
+    let before = option_map (λ looks. looks.now) c.args.line.now.before in
     let next = c.unlike_end-next.result in
-    let columns : c.size-size.result.columns ≡ c.args.profile.now.columns = c.size-size.ensures.columns in
-    subst (λ new. Continues c.args.profile.now c.args.self.now new (flat_map (row_paints c.args.painter picture before) (filter (row_differs c.args.painter picture before) (part_places c.args.column (next - c.args.column) c.args.row))))
-    (ap (λ n. behind_each n c.args.row c.args.column next c.begin_unless.new.self) (sym columns) ∙ sym c.count_each.ensures)
-    (unlike_goes c.run_laws.ensures c.profiles_have.ensures c.args.profile.now c.size-size.ensures.profile c.args.painter picture c.size-picture.ensures.picture (sym c.requires.fits.columns) before c.args.row c.args.column next
+    let columns : c.size-size.result.columns ≡ c.args.scene.now.profile.now.columns = c.size-size.ensures.columns in
+    subst (λ new. Continues c.args.scene.now.profile.now c.args.self.now new (flat_map (row_paints c.args.scene.now.painter picture before) (filter (row_differs c.args.scene.now.painter picture before) (part_places c.args.column (next - c.args.column) c.args.line.now.row))))
+    (ap (λ n. behind_each n c.args.line.now.row c.args.column next c.begin_unless.new.self) (sym columns) ∙ sym c.count_each.ensures)
+    (unlike_goes c.run_laws.ensures c.profiles_have.ensures c.args.scene.now.profile.now c.size-size.ensures.profile c.args.scene.now.painter picture c.size-picture.ensures.picture (sym c.requires.scene.fits.columns) before c.args.line.now.row c.args.column next
     c.unlike_end-next.ensures.more (omega (arith, c.unlike_end-next.ensures.end, c.requires.end)) c.args.self.now c.begin_unless.new.self c.args.left c.args.pen c.requires.left c.requires.pen c.requires.counts c.in_ok-begin_unless.ensures.spot
     c.in_ok-begin_unless.ensures.all (c.unlike_end-next.ensures.unlike c.requires.unlike) c.unlike_end-next.ensures.alike)
 
 pub returns-clause-left : goal.returns-clause-left
 returns-clause-left c =
-    left_by c.args.painter c.args.picture.now (option_map (λ looks. looks.now) c.args.before) c.args.row c.args.column c.unlike_end-next.result c.unlike_end-next.ensures.more c.args.pen c.requires.pen
+    left_by c.args.scene.now.painter c.args.scene.now.picture.now (option_map (λ looks. looks.now) c.args.line.now.before) c.args.line.now.row c.args.column c.unlike_end-next.result c.unlike_end-next.ensures.more c.args.pen c.requires.pen
     (c.unlike_end-next.ensures.unlike c.requires.unlike) c.unlike_end-next.ensures.alike
 
 pub returns-clause-after : goal.returns-clause-after
@@ -27,5 +27,5 @@ returns-clause-after c =
     let next = c.unlike_end-next.result in (
       ap (λ j. j.pen) c.count_each.ensures ∙ c.in_ok-begin_unless.ensures.pen,
       λ wide. ap (λ j. j.spot) c.count_each.ensures
-          ∙ behind_by c.size-size.result.columns c.args.row c.args.column next c.unlike_end-next.ensures.more (omega (arith, wide, c.size-size.ensures.columns, c.requires.fits.columns)),
+          ∙ behind_by c.size-size.result.columns c.args.line.now.row c.args.column next c.unlike_end-next.ensures.more (omega (arith, wide, c.size-size.ensures.columns, c.requires.scene.fits.columns)),
     )

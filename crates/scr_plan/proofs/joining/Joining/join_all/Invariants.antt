@@ -6,4 +6,4 @@ use Rattle.scr_plan.specs.Scratch.{places}
 use Rattle.scr_plan.proofs.joining.Joining.join_all.Given as goal
 
 abbrev pub invariant-loop-row : goal.invariant-loop-row
-invariant-loop-row l = Continues l.profile l.fn.self l.self (flat_map (joined_at l.profile l.picture (cleared l.picture)) (filter (differs l.profile l.picture (cleared l.picture)) (places l.row l.picture.columns)))
+invariant-loop-row l = Continues l.scene.profile.now l.fn.self l.self (flat_map (joined_at l.scene.profile.now l.scene.picture.now (cleared l.scene.picture.now)) (filter (differs l.scene.profile.now l.scene.picture.now (cleared l.scene.picture.now)) (places l.row l.scene.picture.now.columns)))

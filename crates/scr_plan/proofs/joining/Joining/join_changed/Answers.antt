@@ -10,21 +10,21 @@ use Rattle.scr_plan.proofs.joining.Joining.join_changed.Goals as goal
 
 pub join_row-requires-clause-outside : goal.join_row-requires-clause-outside
 join_row-requires-clause-outside c = λ k out wide.
-    ap (λ picture. row_differs c.args.painter picture (Some c.looks.result.now) (c.args.row, k)) c.picture.ensures
-    ∙ outside_looks (range_by c.args.by) c.args.profile.now c.args.memory.now c.args.wanted.now c.requires.same c.requires.size c.requires.known c.args.painter c.requires.painter c.args.row c.in-Some.from c.in-Some.last c.looks.result.now
-    c.requires.row (sym c.in_row.ensures.value ∙ c.in-Some.is) c.looks.ensures.cells k out (subst (λ picture. k < picture.columns) c.picture.ensures wide)
+    ap (λ picture. row_differs c.args.update.now.scene.painter picture (Some c.looks.result.now) (c.args.row, k)) c.requires.update.picture
+    ∙ outside_looks (range_by c.args.update.now.by) c.args.update.now.scene.profile.now c.args.update.now.memory.now c.args.update.now.wanted.now c.requires.update.same c.requires.update.size c.requires.known c.args.update.now.scene.painter c.requires.update.scene.painter c.args.row c.in-Some.from c.in-Some.last c.looks.result.now
+    c.requires.row (sym c.in_row.ensures.value ∙ c.in-Some.is) c.looks.ensures.cells k out (subst (λ picture. k < picture.columns) c.requires.update.picture wide)
 
 pub returns-in-Some : goal.returns-in-Some
 returns-in-Some c =
-    let profile = c.args.profile.now in
-    let memory = c.args.memory.now in
+    let profile = c.args.update.now.scene.profile.now in
+    let memory = c.args.update.now.memory.now in
     on_ok c.join_row.result _
-    (Continues profile c.args.self.now c.join_row.new.self (flat_map (joined_at profile c.args.wanted.now.picture memory) (filter (differs profile c.args.wanted.now.picture memory) (row_places c.args.wanted.now.picture.columns c.args.row))))
+    (Continues profile c.args.self.now c.join_row.new.self (flat_map (joined_at profile c.args.update.now.wanted.now.picture memory) (filter (differs profile c.args.update.now.wanted.now.picture memory) (row_places c.args.update.now.wanted.now.picture.columns c.args.row))))
     (λ goes.
-    subst (λ picture. Continues profile c.args.self.now c.join_row.new.self (flat_map (joined_at profile picture memory) (filter (differs profile picture memory) (row_places picture.columns c.args.row)))) c.picture.ensures
-    (goes memory (shows_row profile memory c.args.wanted.now c.requires.size c.requires.known c.args.row c.looks.result.now c.requires.row c.looks.ensures.cells)))
+    subst (λ picture. Continues profile c.args.self.now c.join_row.new.self (flat_map (joined_at profile picture memory) (filter (differs profile picture memory) (row_places picture.columns c.args.row)))) c.requires.update.picture
+    (goes memory (shows_row profile memory c.args.update.now.wanted.now c.requires.update.size c.requires.known c.args.row c.looks.result.now c.requires.row c.looks.ensures.cells)))
     c.join_row.ensures
 
 pub returns-in-None : goal.returns-in-None
 returns-in-None c =
-    unlooked_goes (range_by c.args.by) c.args.profile.now c.args.memory.now c.args.wanted.now c.requires.same c.requires.size c.requires.known c.args.row c.requires.row (sym c.in_row.ensures.value ∙ c.in-None.is) c.args.self.now
+    unlooked_goes (range_by c.args.update.now.by) c.args.update.now.scene.profile.now c.args.update.now.memory.now c.args.update.now.wanted.now c.requires.update.same c.requires.update.size c.requires.known c.args.row c.requires.row (sym c.in_row.ensures.value ∙ c.in-None.is) c.args.self.now

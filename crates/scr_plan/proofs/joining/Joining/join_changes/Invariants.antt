@@ -6,4 +6,4 @@ use Rattle.scr_plan.specs.Scratch.{places}
 use Rattle.scr_plan.proofs.joining.Joining.join_changes.Given as goal
 
 abbrev pub invariant-loop-row : goal.invariant-loop-row
-invariant-loop-row l = Continues l.profile l.fn.self l.self (flat_map (joined_at l.profile l.wanted.picture l.memory) (filter (differs l.profile l.wanted.picture l.memory) (places l.row l.wanted.picture.columns)))
+invariant-loop-row l = Continues l.update.scene.profile.now l.fn.self l.self (flat_map (joined_at l.update.scene.profile.now l.update.wanted.now.picture l.update.memory.now) (filter (differs l.update.scene.profile.now l.update.wanted.now.picture l.update.memory.now) (places l.row l.update.wanted.now.picture.columns)))

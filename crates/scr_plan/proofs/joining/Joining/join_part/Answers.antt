@@ -9,6 +9,6 @@ loop-column-preserved c = record {
   left = c.in_ok-column.ensures.left;
   after = c.in_ok-column.ensures.after;
   all =
-      part_goes c.args.profile.now c.args.painter c.args.picture.now (option_map (λ looks. looks.now) c.args.before) c.args.row c.args.from c.loop-column.column c.in_ok-column.field-0-0 c.args.self.now c.loop-column.self c.join_next.new.self
+      part_goes c.args.scene.now.profile.now c.args.scene.now.painter c.args.scene.now.picture.now (option_map (λ looks. looks.now) c.args.line.now.before) c.args.line.now.row c.args.from c.loop-column.column c.in_ok-column.field-0-0 c.args.self.now c.loop-column.self c.join_next.new.self
       c.loop-column.invariant.from c.in_ok-column.ensures.more c.loop-column.invariant.all c.in_ok-column.ensures.all;
 }

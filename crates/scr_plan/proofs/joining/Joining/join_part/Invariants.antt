@@ -8,9 +8,9 @@ abbrev pub invariant-loop-column : goal.invariant-loop-column
 invariant-loop-column l = record {
   from : l.from ≤ l.column;
   end : l.column ≤ l.end;
-  left : l.left ≡ pen_before l.painter l.picture (option_map (λ looks. looks.now) l.before) l.row l.column;
-  after : IsAfter l.picture.columns l.self l.row l.column l.left;
-  all : Continues l.profile l.fn.self l.self (flat_map (row_paints l.painter l.picture (option_map (λ looks. looks.now) l.before)) (filter (row_differs l.painter l.picture (option_map (λ looks. looks.now) l.before)) (part_places l.from (l.column - l.from) l.row)));
+  left : l.left ≡ pen_before l.scene.painter l.scene.picture.now (option_map (λ looks. looks.now) l.line.before) l.line.row l.column;
+  after : IsAfter l.scene.picture.now.columns l.self l.line.row l.column l.left;
+  all : Continues l.scene.profile.now l.fn.self l.self (flat_map (row_paints l.scene.painter l.scene.picture.now (option_map (λ looks. looks.now) l.line.before)) (filter (row_differs l.scene.painter l.scene.picture.now (option_map (λ looks. looks.now) l.line.before)) (part_places l.from (l.column - l.from) l.line.row)));
 }
 
 abbrev pub decreases-loop-column : goal.decreases-loop-column

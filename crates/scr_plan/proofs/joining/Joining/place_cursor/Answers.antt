@@ -7,6 +7,6 @@ use Rattle.scr_plan.proofs.joining.Joining.place_cursor.Goals as goal
 
 pub returns : goal.returns
 returns c =
-    subst (λ wish. Continues c.args.profile.now c.args.self.now c.count.new.self (places_cursor wish)) (sym c.in-Some.is)
-    (cursor_goes c.run_laws.ensures c.profiles_have.ensures c.args.profile.now c.size-size.ensures.profile (c.in-Some.row, c.in-Some.column) (subst (λ wish. IfSome wish (IsPlace c.args.profile.now.rows c.args.profile.now.columns)) c.in-Some.is c.requires.wish)
+    subst (λ wish. Continues c.args.scene.now.profile.now c.args.self.now c.count.new.self (places_cursor wish)) (sym c.in-Some.is)
+    (cursor_goes c.run_laws.ensures c.profiles_have.ensures c.args.scene.now.profile.now c.size-size.ensures.profile (c.in-Some.row, c.in-Some.column) (subst (λ wish. IfSome wish (IsPlace c.args.scene.now.profile.now.rows c.args.scene.now.profile.now.columns)) c.in-Some.is c.requires.wish)
     c.args.self.now _ c.count.new.self c.len-begun.result c.requires.plain (search rules) c.in_ok-move_unless_there.ensures refl refl c.count.ensures)

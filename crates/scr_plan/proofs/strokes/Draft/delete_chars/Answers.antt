@@ -5,8 +5,8 @@ use Rattle.scr_plan.proofs.strokes.Draft.delete_chars.Goals as goal
 
 pub returns : goal.returns
 returns c =
-    let profile = c.args.profile.now in
-    on_ok c.add.result _ (SlidesRow profile c.args.picture.now c.args.row c.args.slide c.args.self.now c.add.new.self)
-    (λ added. deleted_slides c.run_laws.ensures c.grid_laws.ensures profile c.size-profile.ensures.profile c.args.picture.now c.requires.fits c.args.row c.args.slide c.requires.slide c.requires.deletes c.requires.has
+    let profile = c.args.scene.now.profile.now in
+    on_ok c.add.result _ (SlidesRow profile c.args.scene.now.picture.now c.args.row c.args.slide c.args.self.now c.add.new.self)
+    (λ added. deleted_slides c.run_laws.ensures c.grid_laws.ensures profile c.size-profile.ensures.profile c.args.scene.now.picture.now c.requires.scene.fits c.args.row c.args.slide c.requires.slide c.requires.deletes c.requires.has
     c.args.self.now c.come_to.new.self c.add.new.self c.in_ok-come_to.ensures.keeps c.in_ok-come_to.ensures.spot c.in_ok-come_to.ensures.plain added)
     c.add.ensures

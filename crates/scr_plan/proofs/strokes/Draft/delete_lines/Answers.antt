@@ -8,8 +8,8 @@ use Rattle.scr_plan.proofs.strokes.Draft.delete_lines.Goals as goal
 
 pub returns : goal.returns
 returns c =
-    let profile = c.args.profile.now in
+    let profile = c.args.scene.now.profile.now in
     on_ok c.add.result _ (Sends profile (rows_up c.args.row profile.rows c.args.count blank) c.args.self.now c.add.new.self)
-    (λ added. deleted c.run_laws.ensures c.grid_laws.ensures profile c.size-profile.ensures.profile c.args.row c.args.count (omega (arith, c.requires.inside, c.requires.fits.rows)) c.requires.has
+    (λ added. deleted c.run_laws.ensures c.grid_laws.ensures profile c.size-profile.ensures.profile c.args.row c.args.count (omega (arith, c.requires.inside, c.requires.scene.fits.rows)) c.requires.has
     c.args.self.now c.come_to.new.self c.add.new.self c.in_ok-come_to.ensures.keeps c.in_ok-come_to.ensures.spot c.in_ok-come_to.ensures.plain added)
     c.add.ensures

@@ -5,7 +5,7 @@ use Rattle.scr_plan.proofs.strokes.Draft.move_and_write.Goals as goal
 
 pub returns : goal.returns
 returns c =
-    on_ok c.write.result _ (KeepsAll c.args.profile.now c.args.picture.now c.args.self.now c.write.new.self)
-    (λ written. keeps_both c.args.profile.now c.args.picture.now c.args.self.now c.move_and_turn.new.self c.write.new.self c.in_ok-move_and_turn.ensures
-    (covers_keep c.args.profile.now c.args.picture.now (in_part c.args.row 0 c.args.column) c.move_and_turn.new.self c.write.new.self written))
+    on_ok c.write.result _ (KeepsAll c.args.scene.now.profile.now c.args.scene.now.picture.now c.args.self.now c.write.new.self)
+    (λ written. keeps_both c.args.scene.now.profile.now c.args.scene.now.picture.now c.args.self.now c.move_and_turn.new.self c.write.new.self c.in_ok-move_and_turn.ensures
+    (covers_keep c.args.scene.now.profile.now c.args.scene.now.picture.now (in_part c.args.to.now.row 0 c.args.to.now.column) c.move_and_turn.new.self c.write.new.self written))
     c.write.ensures

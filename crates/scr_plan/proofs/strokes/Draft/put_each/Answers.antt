@@ -7,7 +7,7 @@ use Rattle.scr_plan.proofs.strokes.Draft.put_each.Goals as goal
 
 pub loop-place-init : goal.loop-place-init
 loop-place-init c = record {
-  put = put_none c.args.profile.now c.args.picture.now c.requires.fits c.args.row c.args.column (omega (arith, c.requires.column, c.requires.end)) c.args.self.now _ c.requires.spot c.in_ok-reserve.ensures.items refl refl refl;
+  put = put_none c.args.scene.now.profile.now c.args.scene.now.picture.now c.requires.scene.fits c.args.row c.args.column (omega (arith, c.requires.column, c.requires.end)) c.args.self.now _ c.requires.spot c.in_ok-reserve.ensures.items refl refl refl;
   room = omega (arith, c.in_ok-reserve.ensures.ok, c.in_ok-reserve.ensures.len, c.requires.column);
 }
 
@@ -19,9 +19,9 @@ loop-place-preserved c =
     let low : c.args.column ≤ c.loop-place.place = c.loop-place.auto.place in
     record {
       put =
-          put_more c.run_laws.ensures c.profiles_have.ensures c.grid_laws.ensures c.args.profile.now c.size-size.ensures.profile c.args.picture.now c.size-picture.ensures.picture c.requires.fits c.args.painter c.requires.painter c.args.row c.args.column c.loop-place.place
+          put_more c.run_laws.ensures c.profiles_have.ensures c.grid_laws.ensures c.args.scene.now.profile.now c.size-size.ensures.profile c.args.scene.now.picture.now c.size-picture.ensures.picture c.requires.scene.fits c.args.scene.now.painter c.requires.scene.painter c.args.row c.args.column c.loop-place.place
           c.requires.row low (omega (arith, c.loop-place-test.true, c.requires.end)) c.byte.result c.args.self.now c.loop-place.self _ (c.requires.pen c.loop-place.place low c.loop-place-test.true)
-          (c.byte.ensures.value ∙ ap (λ cell. cell.byte) c.cell_in.ensures ∙ ap (λ look. look.byte) (look_by c.args.painter c.args.picture.now c.args.row c.loop-place.place c.args.cells.now c.requires.cells))
+          (c.byte.ensures.value ∙ ap (λ cell. cell.byte) c.cell_in.ensures ∙ ap (λ look. look.byte) (look_by c.args.scene.now.painter c.args.scene.now.picture.now c.args.row c.loop-place.place c.row-cells.result.now c.row-cells.ensures.cells))
           c.push_reserved.ensures.items refl refl refl c.loop-place.invariant.put;
       room = omega (arith, c.loop-place.invariant.room, c.push_reserved.ensures.len, c.push_reserved.ensures.capacity, c.loop-place-test.true);
     }
@@ -29,6 +29,6 @@ loop-place-preserved c =
 pub returns : goal.returns
 returns c =
     let last : c.loop-place.place ≡ c.args.end = omega (arith, c.loop-place-test.false, c.loop-place.auto.place-end (omega (arith, c.requires.column))) in
-    put_counted c.args.profile.now c.args.picture.now c.args.row c.args.column c.args.end c.requires.column c.args.self.now c.loop-place.self _ refl
+    put_counted c.args.scene.now.profile.now c.args.scene.now.picture.now c.args.row c.args.column c.args.end c.requires.column c.args.self.now c.loop-place.self _ refl
     (c.saturating_add-self.ensures ∙ ap (λ n. counted_up (n + (c.args.end - c.args.column))) c.loop-place.invariant.put.bytes) (c.spot_after-self.ensures ∙ ap (λ n. spot_after n c.args.row (c.args.end - 1)) c.size-size.ensures.columns) refl
-    (subst (λ n. IsPut c.args.profile.now c.args.picture.now c.args.row c.args.column n c.args.self.now c.loop-place.self) last c.loop-place.invariant.put)
+    (subst (λ n. IsPut c.args.scene.now.profile.now c.args.scene.now.picture.now c.args.row c.args.column n c.args.self.now c.loop-place.self) last c.loop-place.invariant.put)

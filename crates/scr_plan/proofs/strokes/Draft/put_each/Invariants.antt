@@ -6,6 +6,6 @@ use Rattle.scr_plan.proofs.strokes.Draft.put_each.Given as goal
 -- the characters as far as the loop has come were added, and there is room for the others
 abbrev pub invariant-loop-place : goal.invariant-loop-place
 invariant-loop-place l = record {
-  put : IsPut l.profile l.picture l.row l.column l.place l.fn.self l.self;
+  put : IsPut l.scene.profile.now l.scene.picture.now l.row l.column l.place l.fn.self l.self;
   room : vec_len l.self.ops + (l.end - l.place) ≤ vec_capacity l.self.ops;
 }

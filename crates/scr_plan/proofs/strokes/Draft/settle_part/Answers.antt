@@ -6,6 +6,6 @@ use Rattle.scr_plan.proofs.strokes.Draft.settle_part.Goals as goal
 pub returns-in-None : goal.returns-in-None
 returns-in-None c =
     on_ok_both c.add_row.result _ _ _
-    (λ kept has. row_found c.args.profile.now c.args.picture.now c.args.painter c.requires.painter c.args.shift c.args.memory.now.state.grid c.args.row c.args.from c.args.end None c.args.runs.now.items c.add_row.new.runs.items c.args.self.now
-    c.requires.from kept has (λ column wide. c.in-None.ensures.looks column (omega (arith, wide, c.requires.size.columns))) c.requires.beside)
+    (λ kept has. row_found c.args.update.now.scene.profile.now c.args.update.now.scene.picture.now c.args.update.now.scene.painter c.requires.update.scene.painter c.args.shift c.args.update.now.memory.now.state.grid c.args.row c.args.columns.0 c.args.columns.1 None c.args.runs.now.items c.add_row.new.runs.items c.args.self.now
+    c.requires.from kept has (λ column wide. c.in-None.ensures.looks column (omega (arith, wide, c.requires.update.size.columns))) c.requires.beside)
     c.add_row.ensures.kept c.add_row.ensures.has

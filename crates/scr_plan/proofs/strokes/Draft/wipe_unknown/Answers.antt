@@ -5,8 +5,8 @@ use Rattle.scr_plan.proofs.strokes.Draft.wipe_unknown.Goals as goal
 
 pub returns-clause-right : goal.returns-clause-right
 returns-clause-right c =
-    let profile = c.args.profile.now in
-    let picture = c.args.picture.now in
+    let profile = c.args.scene.now.profile.now in
+    let picture = c.args.scene.now.picture.now in
     let waits = unsettled profile picture c.args.memory.now in
     let done : c.loop-row.row ≡ c.top_of_rest-top.result = omega (arith, c.loop-row.auto.row-end, c.loop-row-test.false) in
     if_ok_then c.wipe_rest.result (Keeps profile picture (waits c.top_of_rest-top.result) (waits picture.rows) c.loop-row.self c.wipe_rest.new.self) (Keeps profile picture (waits 0) (waits picture.rows) c.args.self.now c.wipe_rest.new.self)

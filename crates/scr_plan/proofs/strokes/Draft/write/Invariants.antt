@@ -6,7 +6,7 @@ abbrev pub invariant-loop-column : goal.invariant-loop-column
 invariant-loop-column l = record {
   from : l.from ≤ l.column;
   end : l.column ≤ l.end;
-  covers : Covers l.profile l.picture (in_part l.row l.from l.column) l.fn.self l.self;
+  covers : Covers l.scene.profile.now l.scene.picture.now (in_part l.row l.from l.column) l.fn.self l.self;
 }
 
 abbrev pub decreases-loop-column : goal.decreases-loop-column
