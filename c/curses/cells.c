@@ -107,11 +107,13 @@ int wchgat(WINDOW *window, int count, attr_t attrs, short pair, const void *opti
 {
     struct aside aside;
     huttavel_cell cells[PIECE];
+    uint8_t held;
     int room, done, n;
 
     (void)options;
-    if (!window || is_shown(window) || pair < 0 || pair > 63)
+    if (!window || is_shown(window) || pair < 0 || pair >= pair_limit(window->screen))
         return ERR;
+    held = (uint8_t)held_pair(window->screen, pair);
     room = window->columns - getcurx(window);
     if (count < 0 || count > room)
         count = room;
@@ -120,7 +122,7 @@ int wchgat(WINDOW *window, int count, attr_t attrs, short pair, const void *opti
         for (n = 0; n < PIECE && done + n < count; n++) {
             cell_at(window, (int)aside.row, (int)aside.column + done + n, &cells[n]);
             cells[n].attrs = attrs_of(attrs);
-            cells[n].pair = (uint8_t)pair;
+            cells[n].pair = held;
         }
         put_cells(window, (int)aside.row, (int)aside.column + done, cells, n);
     }

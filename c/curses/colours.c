@@ -47,12 +47,41 @@ static uint32_t number_of_colour(short colour)
     return colour < 0 ? NO_COLOUR : (uint32_t)colour;
 }
 
+/* Whether a number of the handle is that of a colour. */
+static bool is_colour(uint32_t number)
+{
+    return number < NO_COLOUR || number == HUTTAVEL_DEFAULT_COLOUR;
+}
+
 int init_pair(short pair, short foreground, short background)
 {
-    if (!current || !current->pairs || pair < 0)
+    uint32_t first, second, held;
+
+    if (!current || !current->pairs || pair < 0 || pair >= pair_limit(current))
         return ERR;
-    return answer(huttavel_set_pair(&current->handle, (uint32_t)pair, number_of_colour(foreground),
-                                    number_of_colour(background)));
+    held = current->all_pairs.held[pair];
+    first = number_of_colour(foreground);
+    second = number_of_colour(background);
+    if (pair == 0 || held)
+        return answer(huttavel_set_pair(&current->handle, held, first, second));
+    if (!is_colour(first) || !is_colour(second))
+        return ERR;
+    current->all_pairs.colours[pair][0] = first;
+    current->all_pairs.colours[pair][1] = second;
+    return OK;
+}
+
+/* The colours of a pair other than 0, by their numbers in the handle. False where there is no such pair. */
+static bool find_colours(SCREEN *screen, int pair, uint32_t *foreground, uint32_t *background)
+{
+    if (pair >= pair_limit(screen))
+        return false;
+    if (screen->all_pairs.held[pair])
+        return huttavel_pair_colours(&screen->handle, screen->all_pairs.held[pair], foreground, background) ==
+               HUTTAVEL_OK;
+    *foreground = screen->all_pairs.colours[pair][0];
+    *background = screen->all_pairs.colours[pair][1];
+    return true;
 }
 
 /* A colour by its number in the handle. */
@@ -70,7 +99,7 @@ int pair_content(short pair, short *foreground, short *background)
         return ERR;
     if (pair == 0 && current->has_defaults)
         first = second = HUTTAVEL_DEFAULT_COLOUR;
-    if (pair > 0 && huttavel_pair_colours(&current->handle, (uint32_t)pair, &first, &second) != HUTTAVEL_OK)
+    if (pair > 0 && !find_colours(current, pair, &first, &second))
         return ERR;
     if (foreground)
         *foreground = colour_of(first);

@@ -97,6 +97,7 @@ static SCREEN *made_screen(const char *type, int output, int input, const char *
     screen->output = output;
     screen->visibility = 1;
     screen->mouse.interval = CLICK_INTERVAL;
+    begin_pairs(&screen->all_pairs);
     screen->entry = find_entry(&search);
     screen->name = calloc(strlen(type) + 1, 1);
     screen->waiting.bytes = malloc(4096);

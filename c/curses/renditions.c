@@ -90,7 +90,7 @@ static attr_t with_colours(attr_t attrs)
 static bool has_pair_colours(short pair, uint32_t *foreground, uint32_t *background)
 {
     return pair > 0 && current && cur_term->strings[SET_FOREGROUND] && cur_term->strings[SET_BACKGROUND] &&
-           huttavel_pair_colours(&current->handle, (uint32_t)pair, foreground, background) == HUTTAVEL_OK;
+           find_colours(current, pair, foreground, background);
 }
 
 int vid_puts(attr_t attrs, short pair, void *options, int (*put)(int))

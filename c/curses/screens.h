@@ -3,6 +3,10 @@
 /* The number of no window of a handle: that of curscr. */
 #define NO_NUMBER UINT32_MAX
 
+/* How many colour pairs a chtype can name, and a cell of the handle. */
+#define PAIRS 256
+#define HELD_PAIRS 64
+
 /* How many keys ungetch() keeps. */
 #define PUSHED 64
 
@@ -137,6 +141,15 @@ struct huttavel_curses_window {
     struct places marks[LARGEST]; /* otherwise the places of each line that were changed since it was copied */
 };
 
+/* The colour pairs of a program, and those of the handle, of which there are fewer. They have the same numbers until a
+   pair above 63 is used: it takes one that was not used yet, whose own pair takes another when it is used. */
+struct pairs {
+    uint8_t held[PAIRS];       /* the handle's pair of each of the program's; 0 without */
+    uint8_t of_held[HELD_PAIRS]; /* the program's pair of each of the handle's */
+    bool is_used[HELD_PAIRS];
+    uint32_t colours[PAIRS][2]; /* of those that have none of the handle, by its numbers */
+};
+
 struct huttavel_curses_screen {
     huttavel handle;
     SCREEN *next;
@@ -155,6 +168,7 @@ struct huttavel_curses_screen {
     struct labels labels;
     int colors, pairs;         /* COLORS, COLOR_PAIRS: 0 before start_color() */
     bool has_defaults;         /* use_default_colors() */
+    struct pairs all_pairs;
     bool is_echo, is_newline;  /* echo(), nl() */
     int half_delay;            /* halfdelay(), in tenths of a second; 0 without */
     int visibility;            /* curs_set() */

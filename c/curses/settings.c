@@ -117,7 +117,7 @@ int wattr_off(WINDOW *window, attr_t attrs, void *options)
 int wattr_set(WINDOW *window, attr_t attrs, short pair, void *options)
 {
     (void)options;
-    if (pair < 0 || set_pen(window, attrs_of(attrs), (uint32_t)pair) == ERR)
+    if (!window || pair < 0 || set_pen(window, attrs_of(attrs), held_pair(window->screen, pair)) == ERR)
         return ERR;
     window->is_alternate = (attrs & A_ALTCHARSET) != 0;
     return OK;
@@ -129,9 +129,9 @@ int wattr_get(WINDOW *window, attr_t *attrs, short *pair, void *options)
     if (!window)
         return ERR;
     if (attrs)
-        *attrs = (attr_t)window->attrs << 8 | COLOR_PAIR(window->pair) | (window->is_alternate ? A_ALTCHARSET : 0);
+        *attrs = (attr_t)window->attrs << 8 | COLOR_PAIR(named_pair(window->screen, window->pair)) | (window->is_alternate ? A_ALTCHARSET : 0);
     if (pair)
-        *pair = (short)window->pair;
+        *pair = (short)named_pair(window->screen, window->pair);
     return OK;
 }
 
@@ -160,7 +160,7 @@ int wattrset(WINDOW *window, int attrs)
 int wcolor_set(WINDOW *window, short pair, void *options)
 {
     (void)options;
-    return window && pair >= 0 ? set_pen(window, window->attrs, (uint32_t)pair) : ERR;
+    return window && pair >= 0 ? set_pen(window, window->attrs, held_pair(window->screen, pair)) : ERR;
 }
 
 int wstandout(WINDOW *window)

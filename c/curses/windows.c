@@ -309,7 +309,7 @@ WINDOW *dupwin(WINDOW *window)
     }
     huttavel_background(handle_of(window), window->number, &background);
     huttavel_set_background(handle_of(copy), copy->number, background.byte, background.attrs, background.pair);
-    wattr_set(copy, (attr_t)window->attrs << 8, (short)window->pair, NULL);
+    wattr_set(copy, (attr_t)window->attrs << 8, (short)named_pair(window->screen, window->pair), NULL);
     huttavel_region(handle_of(window), window->number, &top, &bottom);
     huttavel_set_region(handle_of(copy), copy->number, top, bottom);
     huttavel_is_scroll_ok(handle_of(window), window->number, &is_on);

@@ -70,6 +70,10 @@ static bool was_sent(const char *text)
     static long before;
     size_t length;
 
+    /* The file of another screen is read from its beginning. */
+    fseek(sent, 0, SEEK_END);
+    if (ftell(sent) < before)
+        before = 0;
     fseek(sent, before, SEEK_SET);
     length = fread(bytes, 1, sizeof bytes - 1, sent);
     bytes[length] = '\0';
@@ -601,7 +605,7 @@ static void default_colours(void)
     CHECK(foreground == -1 && background == -1);
     IS(ERR, init_pair(5, -2, COLOR_RED));
     IS(ERR, init_pair(5, 8, COLOR_RED));
-    IS(ERR, init_pair(64, -1, -1));
+    IS(ERR, init_pair(256, -1, -1));
     IS(ERR, init_pair(0, -1, -1));
 }
 
@@ -844,6 +848,44 @@ static void choosing_sizes(void)
     setenv("LINES", "24", 1);
 }
 
+/* After use_default_colors() there are pairs up to 255, of which 63 can be used. */
+static void using_many_pairs(void)
+{
+    SCREEN *screen = open_screen();
+    const chtype green = 'g' | COLOR_PAIR(70), red = 'r' | COLOR_PAIR(63);
+    short front = 0, back = 0, pair = 0;
+    attr_t attrs;
+
+    IS(OK, init_pair(63, COLOR_RED, COLOR_BLUE));
+    IS(ERR, init_pair(64, COLOR_RED, COLOR_BLUE));
+    IS(OK, use_default_colors());
+    IS(OK, init_pair(70, COLOR_GREEN, -1));
+    IS(ERR, init_pair(71, 8, -1));
+    IS(ERR, init_pair(256, COLOR_GREEN, -1));
+    IS(OK, pair_content(70, &front, &back));
+    CHECK(front == COLOR_GREEN && back == -1);
+    clear();
+    IS(OK, mvaddch(2, 0, green));
+    /* The pair that gave way to it is there again when it is used. */
+    IS(OK, mvaddch(2, 1, red));
+    IS(OK, mvaddch(2, 2, green));
+    CHECK(mvinch(2, 0) == green && mvinch(2, 1) == red && mvinch(2, 2) == green);
+    IS(OK, pair_content(63, &front, &back));
+    CHECK(front == COLOR_RED && back == COLOR_BLUE);
+    IS(OK, refresh());
+    CHECK(was_sent("\033[32mg\033[Cg\b\b\033[31m\033[44mr"));
+    IS(OK, wattr_set(stdscr, A_BOLD, 70, NULL));
+    IS(OK, attr_get(&attrs, &pair, NULL));
+    CHECK(pair == 70 && attrs == (A_BOLD | COLOR_PAIR(70)));
+    IS(OK, init_pair(70, COLOR_CYAN, COLOR_BLACK));
+    IS(OK, pair_content(70, &front, &back));
+    CHECK(front == COLOR_CYAN && back == COLOR_BLACK);
+    IS(OK, mvchgat(2, 0, 1, A_NORMAL, 200, NULL));
+    IS(('g' | COLOR_PAIR(200)), mvinch(2, 0));
+    endwin();
+    close_screen(screen);
+}
+
 int main(void)
 {
     SCREEN *screen;
@@ -882,6 +924,7 @@ int main(void)
     resizing();
     IS(OK, endwin());
     close_screen(screen);
+    using_many_pairs();
     if (!failed)
         puts("shim_names: as wanted");
     return failed;
