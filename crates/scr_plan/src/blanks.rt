@@ -1,10 +1,9 @@
 //! Finding blanks in a row of cells, and whether they are worth an erasure.
-ghost use Rattle.std.specs.Prelude.{◌≡◌, ◌<◌, ◌≤◌, IfSome, length};
-ghost use Rattle.scr_cells.specs.Grids.{grid_row};
+ghost use Rattle.std.specs.Prelude.{◌<◌, ◌≤◌, IfSome, length};
 ghost use Rattle.scr_plan.specs.Code.Scenes.{IsLine};
 
 use crate::scenes::{Line, Scene};
-use scr_cells::{Cell, Look, Picture};
+use scr_cells::Cell;
 use scr_term::{Op, Profile};
 
 // The column of a blank from `from` on, or `end` if none is found. Only one column in `many` is

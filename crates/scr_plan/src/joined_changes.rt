@@ -3,20 +3,15 @@
 ghost use Rattle.std.specs.Prelude.{ℕ, ◌≡◌, ◌≢◌, ◌++◌, ◌<◌, not, None, OnOk, false, filter, true};
 ghost use Rattle.std.specs.List.{flat_map};
 ghost use Rattle.scr_plan.specs.Code.Joinings.{Continues, CountsAtMost, joined_at};
-ghost use Rattle.scr_plan.specs.Code.Painters.{painter_of};
-ghost use Rattle.scr_plan.specs.Code.Planning.{range_by};
 ghost use Rattle.scr_memory.specs.Memories.{is_known};
-ghost use Rattle.scr_plan.specs.Repaints.{IsSizeOf, ShowsOutside, cleared, differing, differs, is_none_left, joined_places};
-ghost use Rattle.scr_plan.specs.Scratch.{Fits, places_cursor, resets, row_places};
+ghost use Rattle.scr_plan.specs.Repaints.{cleared, differing, differs, is_none_left, joined_places};
+ghost use Rattle.scr_plan.specs.Scratch.{places_cursor, resets, row_places};
 ghost use Rattle.scr_plan.specs.Code.Scenes.{IsScene, IsUpdate};
 
 use crate::joining::Joining;
-use crate::looked::Looked;
 use crate::scenes::{Line, Scene, Update};
-use scr_cells::{NoMemory, Picture};
-use scr_memory::Memory;
-use scr_term::{Profile, run_laws};
-use scr_virtual::Virtual;
+use scr_cells::NoMemory;
+use scr_term::run_laws;
 
 // Whether any place differs from what is known of it.
 pub(crate) fn differs(update: &Update<'_>) -> bool

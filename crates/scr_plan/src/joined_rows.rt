@@ -3,25 +3,24 @@
 ghost use Rattle.std.specs.Prelude.{ℕ, ◌≡◌, ◌+◌, ◌++◌, ◌∷◌, [], ◌-◌, ◌<◌, ◌≤◌, ◌⊎◌, IfOk, IfSome, None, Some, OnOk, filter, false, true, length, option_map, if◌then◌else◌};
 ghost use Rattle.std.specs.List.{flat_map};
 ghost use Rattle.scr_cells.specs.CellViews.{IsCharacter};
-ghost use Rattle.scr_cells.specs.Grids.{grid_row};
 ghost use Rattle.scr_cells.specs.LookViews.{blank};
 ghost use Rattle.scr_term.specs.declared.operations.operation.Op.TheVariants.{EraseLine};
 ghost use Rattle.scr_term.specs.declared.operations.operation.Spot.TheVariants.{At};
 ghost use Rattle.scr_term.specs.Operations.Texts.{has};
 ghost use Rattle.scr_term.specs.Operations.States.{spot_after};
 ghost use Rattle.scr_plan.specs.Code.Joinings.{Continues, IsAfter, ShowsRow, counted_up, joined_at};
-ghost use Rattle.scr_plan.specs.Code.Painters.{is_that_pen, painter_begins, painter_look, painter_of, painter_writes, part_places, pen_before, row_differs, row_paints};
+ghost use Rattle.scr_plan.specs.Code.Painters.{is_that_pen, painter_begins, painter_look, painter_writes, part_places, pen_before, row_differs, row_paints};
 ghost use Rattle.scr_memory.specs.Memories.{MemoryView};
-ghost use Rattle.scr_plan.specs.Repaints.{differs, look_eq};
-ghost use Rattle.scr_plan.specs.Scratch.{Fits, row_places};
+ghost use Rattle.scr_plan.specs.Repaints.{differs};
+ghost use Rattle.scr_plan.specs.Scratch.{row_places};
 ghost use Rattle.scr_plan.specs.Code.Scenes.{IsLine, IsScene};
 
 use crate::joining::{Joining, spot_after};
 use crate::looking::{is_shown_in, is_that_pen};
 use crate::scenes::{Line, Scene};
-use scr_cells::{Cell, Look, NoMemory, Pen, Picture};
+use scr_cells::{Look, NoMemory, Pen};
 use scr_prices::Target;
-use scr_term::{Profile, profiles_have, run_laws};
+use scr_term::{profiles_have, run_laws};
 
 impl Joining {
     // Adds what paints the places of a row that differ from what it shows: `before`, or blanks.

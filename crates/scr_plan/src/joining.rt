@@ -4,19 +4,19 @@ ghost use Rattle.std.specs.Prelude.{◌≡◌, ◌+◌, ◌≤◌, ◌++◌, ◌
 ghost use Rattle.scr_cells.specs.CellViews.{IsCharacter};
 ghost use Rattle.scr_cells.specs.PenViews.{is_plain_pen, plain_pen};
 ghost use Rattle.scr_cells.specs.PictureViews.{IsPlace};
-ghost use Rattle.scr_term.specs.declared.operations.operation.Op.TheVariants.{EraseLine, Move, Put};
+ghost use Rattle.scr_term.specs.declared.operations.operation.Op.TheVariants.{EraseLine, Put};
 ghost use Rattle.scr_term.specs.declared.operations.operation.Spot.TheVariants.{At};
 ghost use Rattle.scr_term.specs.declared.operations.capability.Capability.TheVariants.{Sgr0};
 ghost use Rattle.scr_term.specs.Operations.Profiles.{is_there};
 ghost use Rattle.scr_term.specs.Operations.States.{blank_state, spot_after};
 ghost use Rattle.scr_term.specs.Operations.Texts.{all_bytes, has};
 ghost use Rattle.scr_plan.specs.Code.Joinings.{Continues, IsCounted, IsJoining, counted_up};
-ghost use Rattle.scr_plan.specs.Code.Painters.{painter_begins, painter_leads, painter_of};
-ghost use Rattle.scr_plan.specs.Scratch.{Fits, look_at, places_cursor, resets};
+ghost use Rattle.scr_plan.specs.Code.Painters.{painter_begins};
+ghost use Rattle.scr_plan.specs.Scratch.{look_at, places_cursor, resets};
 ghost use Rattle.scr_plan.specs.Code.Scenes.{IsScene};
 
 use crate::scenes::Scene;
-use scr_cells::{NoMemory, Pen, Picture};
+use scr_cells::{NoMemory, Pen};
 use scr_memory::Memory;
 use scr_prices::Target;
 use scr_term::{Op, Profile, Spot, blank_laws, profiles_have, run_laws};

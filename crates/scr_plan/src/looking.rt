@@ -8,14 +8,14 @@ ghost use Rattle.scr_term.specs.declared.operations.operation.Op.TheVariants.{Er
 ghost use Rattle.scr_term.specs.Operations.Texts.{has};
 ghost use Rattle.scr_plan.specs.Code.Joinings.{ShowsRow};
 ghost use Rattle.scr_plan.specs.Code.Looking.{IsRest};
-ghost use Rattle.scr_plan.specs.Code.Painters.{is_that_pen, painter_look, painter_of, painter_sees, row_differs, shown_in};
+ghost use Rattle.scr_plan.specs.Code.Painters.{is_that_pen, painter_look, painter_sees, row_differs, shown_in};
 ghost use Rattle.scr_memory.specs.Memories.{MemoryView};
 ghost use Rattle.scr_plan.specs.Repaints.{erased_column, look_eq};
 ghost use Rattle.scr_plan.specs.Code.Scenes.{IsLine, IsScene};
 
 use crate::scenes::{Line, Scene};
-use scr_cells::{Cell, Look, Pen, Picture, alike_before, shown_before, unshown_before};
-use scr_term::{Op, Profile};
+use scr_cells::{Cell, Look, Pen, alike_before, shown_before, unshown_before};
+use scr_term::Op;
 
 impl Scene<'_> {
     // What is seen of a row's cell: its byte, and the pen that it is written with.

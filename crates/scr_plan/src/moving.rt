@@ -3,24 +3,16 @@
 ghost use Rattle.std.specs.Prelude.{◌≡◌, OnOk, true};
 ghost use Rattle.scr_plan.specs.Code.Drafts.{in_runs};
 ghost use Rattle.scr_plan.specs.Code.Moves.{IsBegun, IsMoved};
-ghost use Rattle.scr_plan.specs.Code.Painters.{painter_of};
-ghost use Rattle.scr_plan.specs.Code.Planning.{range_by};
 ghost use Rattle.scr_memory.specs.Memories.{is_known};
-ghost use Rattle.scr_plan.specs.Repaints.{IsSizeOf, ShowsOutside};
-ghost use Rattle.scr_plan.specs.Scratch.{Fits};
 ghost use Rattle.scr_term.specs.Operations.Profiles.{abilities};
 ghost use Rattle.scr_term.specs.Operations.States.{IsShownPen};
 ghost use Rattle.scr_plan.specs.Code.Scenes.{IsUpdate};
 
-use crate::looked::Looked;
 use crate::scenes::Update;
 use crate::settling::first_to_look;
 use crate::strokes::Draft;
 use scr_cells::{Look, NoMemory, grid_laws};
-use scr_memory::Memory;
 use scr_prices::Run;
-use scr_term::Profile;
-use scr_virtual::Virtual;
 use std::alloc::Global;
 
 impl Draft {

@@ -1,5 +1,5 @@
 //! Planning an update: which operations it sends. The definitions are in `specs/Plans.antt` and `specs/Repaints.antt`.
-ghost use Rattle.std.specs.Prelude.{◌≡◌, ◌<◌, ◌≤◌, ◌⊎◌, ◌==◌, ◌&&◌, ◌||◌, not, IfOk, IfSome, bit_and, false, length, true};
+ghost use Rattle.std.specs.Prelude.{◌≡◌, ◌≤◌, ◌⊎◌, ◌==◌, ◌&&◌, ◌||◌, not, IfOk, bit_and, false, length, true};
 ghost use Rattle.std.specs.Option.{is_none};
 ghost use Rattle.scr_cells.specs.PenViews.{is_plain_pen};
 ghost use Rattle.scr_term.specs.declared.operations.capability.Capability.TheVariants.{Sgr0};
@@ -8,7 +8,6 @@ ghost use Rattle.scr_term.specs.Operations.States.{IsShownPen};
 ghost use Rattle.scr_term.specs.Operations.Texts.{all_bytes};
 ghost use Rattle.scr_virtual.specs.VirtualViews.{range_at};
 ghost use Rattle.scr_plan.specs.Code.Joinings.{counted_up};
-ghost use Rattle.scr_plan.specs.Code.Painters.{painter_of};
 ghost use Rattle.scr_plan.specs.Code.Planning.{painted_anew, range_by};
 ghost use Rattle.scr_memory.specs.Memories.{is_known, is_placed};
 ghost use Rattle.scr_plan.specs.Plans.{IsPlan};
@@ -24,7 +23,7 @@ use crate::plan_laws::{joined_is_cheap, plans_are_made, plans_are_remembered};
 use crate::scenes::{Scene, Update};
 use crate::short_plan::{short_anew, short_changes};
 use crate::unknown_rows::short_partly;
-use scr_cells::{Look, NoMemory, Pen, Picture, Size, grid_laws};
+use scr_cells::{Look, NoMemory, Pen, Size, grid_laws};
 use scr_memory::{Memory, known_memories, memory_runs};
 use scr_term::{Op, Ops, Profile, profiles_have, run_laws};
 use scr_virtual::Virtual;

@@ -2,7 +2,6 @@
 //! known: what the search for rows that moved asks for. This only compares prices: a choice affects
 //! nothing but the number of bytes of an update.
 ghost use Rattle.std.specs.Prelude.{◌≡◌, ◌<◌, ◌≤◌, length, true};
-ghost use Rattle.scr_cells.specs.Grids.{grid_row};
 ghost use Rattle.scr_plan.specs.Code.Moves.{IsSlide};
 ghost use Rattle.scr_plan.specs.Code.Scenes.{IsLine};
 
@@ -15,7 +14,7 @@ use crate::shown::slide_into;
 use scr_cells::{Cell, Look, NoMemory, Picture};
 use scr_memory::Memory;
 use scr_prices::{Chooser, KnownRows, RowPrices, Slide};
-use scr_term::{FAR, Op, Profile};
+use scr_term::{FAR, Op};
 use scr_virtual::Virtual;
 
 // What prices of rows need: a chooser, and the scene that it is for.

@@ -1,14 +1,12 @@
 //! The short plan's ways to a place and a pen, as chosen: motions, turns, and places written in
 //! place of a motion.
-ghost use Rattle.std.specs.Prelude.{◌≡◌, ◌<◌, OnOk};
+ghost use Rattle.std.specs.Prelude.{◌<◌, OnOk};
 ghost use Rattle.scr_plan.specs.Code.Drafts.{KeepsAll, KeepsEvery};
-ghost use Rattle.scr_plan.specs.Code.Painters.{painter_of};
-ghost use Rattle.scr_plan.specs.Scratch.{Fits};
 ghost use Rattle.scr_plan.specs.Code.Scenes.{IsScene};
 
 use crate::scenes::Scene;
 use crate::strokes::Draft;
-use scr_cells::{Attrs, NoMemory, Pen, Picture};
+use scr_cells::{Attrs, NoMemory, Pen};
 use scr_prices::{Chooser, Motion, Path, Steps, Target, Turn, cheapest_turn};
 use scr_term::{Op, Profile};
 

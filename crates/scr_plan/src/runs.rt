@@ -1,7 +1,6 @@
 //! The runs of a row: places that one visit paints with one pen. Each place that differs is in a
 //! run.
 ghost use Rattle.std.specs.Prelude.{◌≡◌, ◌<◌, ◌≤◌, IfOk, IfSome, OnOk, length, option_map};
-ghost use Rattle.scr_cells.specs.Grids.{grid_row};
 ghost use Rattle.scr_plan.specs.Code.Drafts.{HasDiffering, HasMarks, HasPart, KeepsRuns};
 ghost use Rattle.scr_plan.specs.Code.Scenes.{IsLine};
 
@@ -10,9 +9,8 @@ use crate::blanks::{
 };
 use crate::looking::is_shown_in;
 use crate::scenes::{Line, Scene};
-use scr_cells::{Cell, Look, NoMemory, Pen, Picture};
+use scr_cells::{Look, NoMemory, Pen};
 use scr_prices::{How, Run};
-use scr_term::Profile;
 
 impl Scene<'_> {
     // Adds the runs of the places in columns `from..end` that differ from what the row shows:

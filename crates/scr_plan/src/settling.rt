@@ -3,12 +3,10 @@
 ghost use Rattle.std.specs.Prelude.{ℕ, ◌≡◌, ◌+◌, ◌-◌, ◌≤◌, ◌<◌, IfSome, List, None, OnOk, Option, Some, length, true};
 ghost use Rattle.scr_cells.specs.LookViews.{LookView};
 ghost use Rattle.scr_plan.specs.Code.Moves.{IsShift, IsSlide};
-ghost use Rattle.scr_plan.specs.Code.Painters.{painter_of};
 ghost use Rattle.scr_plan.specs.Code.Planning.{range_by};
 ghost use Rattle.scr_plan.specs.Code.Settled.{IsShownRow, Settles, ShowsBeside, op_of};
 ghost use Rattle.scr_memory.specs.Memories.{MemoryView, is_known};
 ghost use Rattle.scr_plan.specs.Repaints.{IsSizeOf, ShowsOutside};
-ghost use Rattle.scr_plan.specs.Scratch.{Fits};
 ghost use Rattle.scr_prices.specs.declared.shifts.Shift.{Shift};
 ghost use Rattle.scr_term.specs.Operations.Profiles.{ProfileView};
 ghost use Rattle.scr_term.specs.Operations.Texts.{has};
@@ -21,10 +19,8 @@ use crate::shown::{is_moved, shown_row, slide_into};
 use crate::sliding::slide_of;
 use crate::strokes::Draft;
 use crate::wiping::drop_from;
-use scr_cells::{Look, NoMemory, Picture};
-use scr_memory::Memory;
+use scr_cells::{Look, NoMemory};
 use scr_prices::{Run, Shift, Slide};
-use scr_term::Profile;
 use scr_virtual::Virtual;
 
 impl Draft {

@@ -5,23 +5,17 @@ ghost use Rattle.scr_cells.specs.LookViews.{blank};
 ghost use Rattle.scr_cells.specs.PenViews.{is_plain_pen};
 ghost use Rattle.scr_plan.specs.Code.Drafts.{KeepsEvery};
 ghost use Rattle.scr_plan.specs.Code.Moves.{IsShift, Sends, shifted_at, shown_at};
-ghost use Rattle.scr_plan.specs.Code.Painters.{painter_of};
-ghost use Rattle.scr_plan.specs.Repaints.{IsSizeOf};
-ghost use Rattle.scr_plan.specs.Scratch.{Fits};
 ghost use Rattle.scr_term.specs.declared.operations.operation.Op.TheVariants.{DeleteLines, InsertLines};
 ghost use Rattle.scr_term.specs.declared.operations.operation.Spot.TheVariants.{At};
 ghost use Rattle.scr_term.specs.Operations.Texts.{has};
 ghost use Rattle.scr_plan.specs.Code.Scenes.{IsScene, IsUpdate};
 
-use crate::looked::Looked;
 use crate::priced_rows::{PricedRows, RememberedRows};
 use crate::scenes::{Scene, Update};
 use crate::strokes::Draft;
-use scr_cells::{Look, NoMemory, Picture, grid_laws};
-use scr_memory::Memory;
+use scr_cells::{Look, NoMemory, grid_laws};
 use scr_prices::{Cursor, Shift, can_shift_some, cheapest_motion, cheapest_shift};
-use scr_term::{Op, Profile, Spot, run_laws};
-use scr_virtual::Virtual;
+use scr_term::{Op, Spot, run_laws};
 use std::alloc::Global;
 
 impl Draft {

@@ -6,22 +6,16 @@ ghost use Rattle.scr_term.specs.Operations.Profiles.{abilities};
 ghost use Rattle.scr_term.specs.Operations.States.{IsShownPen, blank_state};
 ghost use Rattle.scr_plan.specs.Code.Drafts.{HasChangesIn, IsDone, KeepsRuns};
 ghost use Rattle.scr_plan.specs.Code.Moves.{IsChanged};
-ghost use Rattle.scr_plan.specs.Code.Painters.{painter_of};
-ghost use Rattle.scr_plan.specs.Code.Planning.{range_by};
 ghost use Rattle.scr_memory.specs.Memories.{is_known, is_known_row};
-ghost use Rattle.scr_plan.specs.Repaints.{IsSizeOf, ShowsOutside};
-ghost use Rattle.scr_plan.specs.Scratch.{Fits, resets};
+ghost use Rattle.scr_plan.specs.Scratch.{resets};
 ghost use Rattle.scr_plan.specs.Code.Scenes.{IsScene, IsUpdate};
 
-use crate::looked::Looked;
 use crate::runs::room_for;
 use crate::scenes::{Scene, Update};
 use crate::strokes::Draft;
-use scr_cells::{NoMemory, Pen, Picture, Size};
-use scr_memory::Memory;
+use scr_cells::{NoMemory, Pen, Size};
 use scr_prices::Run;
-use scr_term::{Op, Profile, Spot, blank_laws};
-use scr_virtual::Virtual;
+use scr_term::{Op, Spot, blank_laws};
 use std::alloc::Global;
 
 // Room for the runs that most updates have, so that the list does not grow.

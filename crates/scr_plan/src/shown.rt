@@ -1,6 +1,6 @@
 //! What the terminal shows once rows were shifted, and what a row shows once characters of it were
 //! moved: remembered rows, lent, and one row that is put together.
-ghost use Rattle.std.specs.Prelude.{ℕ, ◌≡◌, ◌+◌, ◌-◌, ◌<◌, ◌≤◌, IfSome, OnOk, length, option_map, slice_index_or, true, false};
+ghost use Rattle.std.specs.Prelude.{ℕ, ◌≡◌, ◌<◌, ◌≤◌, IfSome, OnOk, length, option_map, slice_index_or, true, false};
 ghost use Rattle.scr_cells.specs.LookViews.{LookView, blank};
 ghost use Rattle.scr_plan.specs.Code.Moves.{IsShift, IsSlide, shifted_at};
 ghost use Rattle.scr_plan.specs.Code.Settled.{IsShownRow, is_moved, look_from, slid_at};

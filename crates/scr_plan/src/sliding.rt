@@ -1,9 +1,7 @@
 //! Slides of a row's characters, as they are sent: characters are inserted or deleted.
-ghost use Rattle.std.specs.Prelude.{ℕ, ◌≡◌, ◌<◌, IfOk, IfSome, OnOk, false, length, true};
+ghost use Rattle.std.specs.Prelude.{◌≡◌, ◌<◌, IfOk, IfSome, OnOk, false, length, true};
 ghost use Rattle.scr_plan.specs.Code.Moves.{IsSlide};
-ghost use Rattle.scr_plan.specs.Code.Painters.{painter_of};
 ghost use Rattle.scr_plan.specs.Code.Settled.{SlidesRow, op_of};
-ghost use Rattle.scr_plan.specs.Scratch.{Fits};
 ghost use Rattle.scr_term.specs.declared.operations.operation.Op.TheVariants.{DeleteChars, InsertChars};
 ghost use Rattle.scr_term.specs.Operations.Texts.{has};
 ghost use Rattle.scr_plan.specs.Code.Scenes.{IsScene};
@@ -11,7 +9,7 @@ ghost use Rattle.scr_plan.specs.Code.Scenes.{IsScene};
 use crate::priced_rows::{PricedRows, is_inside};
 use crate::scenes::Scene;
 use crate::strokes::Draft;
-use scr_cells::{Look, NoMemory, Picture, grid_laws};
+use scr_cells::{Look, NoMemory, grid_laws};
 use scr_prices::{
     Cursor, DifferingRow, RowPrices, Run, Slide, are_wide, can_slide_some, cheapest_slide,
 };

@@ -1,18 +1,16 @@
 //! The short plan, stroke by stroke. Each stroke looks before it acts, so that earlier choices can
 //! make a plan longer but never wrong.
 ghost use Rattle.std.specs.Prelude.{ℕ, ◌≡◌, ◌<◌, ◌≤◌, ◌∷◌, [], IfOk, OnOk, length, true};
-ghost use Rattle.scr_cells.specs.Grids.{grid_row};
 ghost use Rattle.scr_term.specs.declared.operations.operation.Spot.TheVariants.{At};
 ghost use Rattle.scr_term.specs.Operations.Texts.{all_bytes, has};
 ghost use Rattle.scr_plan.specs.Code.Drafts.{Covers, IsAdded, IsPaid, KeepsAll, KeepsEvery, in_part};
-ghost use Rattle.scr_plan.specs.Code.Painters.{painter_begins, painter_look, painter_of};
-ghost use Rattle.scr_plan.specs.Scratch.{Fits};
+ghost use Rattle.scr_plan.specs.Code.Painters.{painter_begins, painter_look};
 ghost use Rattle.scr_plan.specs.Code.Scenes.{IsScene};
 
 use crate::joining::{price_of, price_of_one, spot_after};
 use crate::looking::cell_in;
 use crate::scenes::Scene;
-use scr_cells::{Cell, Look, NoMemory, Pen, Picture, grid_laws};
+use scr_cells::{Look, NoMemory, Pen, grid_laws};
 use scr_prices::{Cursor, Target};
 use scr_term::{Op, Profile, Spot, profiles_have, run_laws};
 use scr_terminal::{moved_by, turned};

@@ -3,25 +3,20 @@
 //! are erased at once if that is cheaper. In known rows the usual columns are looked at.
 ghost use Rattle.std.specs.Prelude.{◌≡◌, ◌+◌, ◌<◌, ◌≤◌, IfOk, IfSome, OnOk, true};
 ghost use Rattle.scr_plan.specs.Code.Drafts.{AreUnknown, HasUnsettled, HasUnsettledIn, IsPartly, KeepsRuns, Keeps, Knows, LearnsBelow, LearnsRow, RightFrom, WipesRow, or_below, unsettled};
-ghost use Rattle.scr_plan.specs.Code.Painters.{painter_of};
-ghost use Rattle.scr_plan.specs.Code.Planning.{range_by};
 ghost use Rattle.scr_memory.specs.Memories.{MayBe, is_known_row};
-ghost use Rattle.scr_plan.specs.Repaints.{IsSizeOf, ShowsOutside};
-ghost use Rattle.scr_plan.specs.Scratch.{Fits};
+ghost use Rattle.scr_plan.specs.Repaints.{IsSizeOf};
 ghost use Rattle.scr_term.specs.Operations.Profiles.{abilities};
 ghost use Rattle.scr_plan.specs.Code.Scenes.{IsScene, IsUpdate};
 
 use crate::joining::price_of;
-use crate::looked::Looked;
 use crate::planning::room_of;
 use crate::scenes::{Scene, Update};
 use crate::short_plan::find_in_row;
 use crate::strokes::Draft;
-use scr_cells::{Look, NoMemory, Pen, Picture, grid_laws};
+use scr_cells::{Look, NoMemory, Pen, grid_laws};
 use scr_memory::{Memory, memory_runs};
 use scr_prices::{Run, Target};
 use scr_term::{Op, Profile, Spot, profiles_have, run_laws};
-use scr_virtual::Virtual;
 use std::alloc::Global;
 
 // The short plan if not all is known; `None` if the terminal cannot erase a line.

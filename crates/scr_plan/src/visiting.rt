@@ -5,14 +5,12 @@ ghost use Rattle.scr_cells.specs.PenViews.{is_plain_pen, plain_pen};
 ghost use Rattle.scr_term.specs.declared.operations.operation.Spot.TheVariants.{At};
 ghost use Rattle.scr_term.specs.Operations.Texts.{has};
 ghost use Rattle.scr_plan.specs.Code.Drafts.{Covers, KeepsAll, KeepsEvery, Leaves, in_part, is_in, no_run};
-ghost use Rattle.scr_plan.specs.Code.Painters.{painter_of};
-ghost use Rattle.scr_plan.specs.Scratch.{Fits};
 ghost use Rattle.scr_prices.specs.declared.runs.Run.{Run};
 ghost use Rattle.scr_plan.specs.Code.Scenes.{IsScene};
 
 use crate::scenes::Scene;
 use crate::strokes::Draft;
-use scr_cells::{Look, NoMemory, Pen, Picture, grid_laws};
+use scr_cells::{Look, NoMemory, Pen, grid_laws};
 use scr_prices::{Chooser, How, Path, Run, Stop, Target, Way, cheapest_order};
 use scr_term::{Op, Profile, Spot, profiles_have, run_laws};
 use std::alloc::Global;

@@ -1,17 +1,15 @@
 //! Erasing many lines at once, before anything is painted, where that was chosen.
 ghost use Rattle.std.specs.Prelude.{◌≡◌, ◌<◌, IfOk, OnOk, false, length, slice_index_or, true};
 ghost use Rattle.scr_plan.specs.Code.Drafts.{KeepsAbove, KeepsAll, LearnsFrom, Leaves, Wipes};
-ghost use Rattle.scr_plan.specs.Code.Painters.{painter_of};
-ghost use Rattle.scr_plan.specs.Scratch.{Fits};
 ghost use Rattle.scr_prices.specs.declared.runs.Run.{Run};
 ghost use Rattle.scr_plan.specs.Code.Scenes.{IsScene};
 
 use crate::scenes::Scene;
 use crate::strokes::Draft;
-use scr_cells::{Look, NoMemory, Pen, Picture, grid_laws};
+use scr_cells::{Look, NoMemory, Pen, grid_laws};
 use scr_memory::memory_runs;
 use scr_prices::{Chooser, Run, Target, Wiping, cheapest_wiping};
-use scr_term::{Op, Profile, Spot, profiles_have, run_laws};
+use scr_term::{Op, Spot, profiles_have, run_laws};
 
 impl Draft {
     // Erases many lines at once if that is worth it; the runs there are then those of a blank
