@@ -4,7 +4,7 @@ ghost use Rattle.scr_windows.specs.DeskViews.{HasSameSize, window_at};
 ghost use Rattle.scr_windows.specs.Changes.{Allocated};
 ghost use Rattle.scr_windows.specs.Code.NewFrames.{IsRootPlace};
 ghost use Rattle.scr_windows.specs.Calls.Removing.{has_children};
-ghost use Rattle.scr_windows.specs.Calls.Resizing.{area_in, ends_inside, resize_window_call, root_resized, root_size, sub_resized, with_root_size};
+ghost use Rattle.scr_windows.specs.Calls.Resizing.{area_in, ends_inside, resize_window_call, root_size, sub_resized, with_root_size};
 
 use crate::calls::making::pad_size;
 use crate::calls::removing::has_children;
@@ -34,29 +34,15 @@ impl Desk {
             return Err(WinFault::HasChildren);
         }
         match self.window_at(index).frame().parent {
-            None => self.resize_root(alloc, index, rows, columns),
+            None => {
+                let (rows, columns) = self.root_size(index, rows, columns)?;
+                self.set_root_size(alloc, index, rows, columns)
+            }
             Some(parent) => {
                 let above = self.index_of(Win(parent))?;
                 self.resize_sub(alloc, index, above, rows, columns)
             }
         }
-    }
-
-    // Gives the window at an index, which shares no cells, another size.
-    fn resize_root(
-        &mut self,
-        alloc: Global,
-        index: usize,
-        rows: u32,
-        columns: u32,
-    ) -> Result<(), WinFault>
-        requires here { index < length self.old.windows }
-        requires root { (window_at self.old index).frame.parent ≡ None }
-        requires alone { has_children (window_at self.old index).frame.number self.old.windows ≡ false }
-        ensures { Allocated self.old (root_resized self.old index (root_size self.old (window_at self.old index).frame.origin rows columns)) (self.new, result) }
-    {
-        let (rows, columns) = self.root_size(index, rows, columns)?;
-        self.set_root_size(alloc, index, rows, columns)
     }
 
     // The size that the window at an index gets, which shares no cells.

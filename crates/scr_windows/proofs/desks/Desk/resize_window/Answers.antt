@@ -4,8 +4,8 @@ use Rattle.scr_windows.proofs.DeskLaws.{frame_of}
 use Rattle.scr_windows.proofs.LawLaws.{found_number}
 use Rattle.scr_windows.proofs.desks.Desk.resize_window.Goals as goal
 
-pub resize_root-requires-clause-alone : goal.resize_root-requires-clause-alone
-resize_root-requires-clause-alone c =
+pub set_root_size-requires-clause-alone : goal.set_root_size-requires-clause-alone
+set_root_size-requires-clause-alone c =
     ap (λ n. has_children n c.args.self.now.windows) (found_number c.args.self.now _ _ (sym c.in_ok-index.ensures.index)).1 ∙ sym (ap (λ v. has_children c.args.win.0 v.windows) c.self.view_is)
     ∙ sym (ap (has_children c.args.win.0) c.deref.ensures.value) ∙ sym c.has_children.ensures ∙ c.if-has_children.false
 
