@@ -45,8 +45,7 @@ impl Profile {
     ///
     /// 1. `Unsuitable`: `hc`, `os`, `gn`, `hz`, `ul`, `xhp`, `xt`, `sam` or `xmc` is present.
     /// 2. `AutoMargin`: `am` is present and `xenl` is not.
-    /// 3. `Missing`: `cup`, or else `clear`, is absent. A text that consists of padding alone
-    ///    counts as absent.
+    /// 3. `Missing`: `cup`, or else `clear`, is absent. A text of padding alone counts as absent.
     /// 4. `NoSize`: `size` is `None`, and `lines` or `cols` is absent.
     /// 5. `BadSize`: the entry's `lines` or `cols` is not 1 to 500.
     /// 6. `BadString`: the text of a capability is not a parameter string, or could need a stack of
