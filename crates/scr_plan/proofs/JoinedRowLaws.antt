@@ -1,5 +1,5 @@
 -- The joined repaint, row by row.
-use Rattle.std.proofs.Common.{◌≡◌, ℕ, ◌+◌, ◌-◌, ◌<◌, ◌≤◌, ◌&&◌, ◌⊎◌, inl, inr, not, Bool, true, false, All, refl, sym, ◌∙◌, ap, subst, arith, append_assoc, get_or, nat_lt, Result, Ok, Err, OnOk, List, [], ◌∷◌, ◌++◌, filter, Option, Some, None, zero, suc, if◌then◌else◌}
+use Rattle.std.proofs.Common.{◌≡◌, ℕ, ◌+◌, ◌-◌, ◌<◌, ◌≤◌, ◌&&◌, ◌⊎◌, inl, inr, not, Bool, true, false, All, refl, sym, ◌∙◌, ap, subst, arith, append_assoc, get_or, nat_lt, Result, Ok, Err, OnOk, List, [], ◌∷◌, ◌++◌, filter, Option, Some, None, zero, suc, if◌then◌else◌, IfOk}
 use Rattle.std.specs.List.{flat_map}
 use Rattle.std.proofs.lemmas.Bool.Decides.{nat_tests}
 use Rattle.std.proofs.lemmas.List.{append-nil}
@@ -24,6 +24,7 @@ use Rattle.scr_plan.proofs.PartLaws.{none_in_part, pen_refl, outside_above, outs
 use Rattle.scr_plan.proofs.PlaceLaws.{cell_of}
 use Rattle.scr_plan.proofs.PlacesLaws.{is_among}
 use Rattle.scr_plan.proofs.PlainLaws.{among_differing, pen_same}
+use Rattle.scr_plan.specs.Code.Planning.{IsSameRow}
 use Rattle.scr_plan.specs.Code.Joinings.{Continues, CountsAtMost, IsAfter, ShowsRow, counted_up, joined_at}
 use Rattle.scr_plan.specs.Code.Painters.{is_that_pen, painter_begins, painter_look, painter_of, painter_writes, part_places, pen_before, row_differs, row_paints}
 use Rattle.scr_memory.specs.Memories.{MemoryView, is_known}
@@ -163,12 +164,10 @@ outside_looks ranges profile memory virtual same size known painter who r from l
 pub shows_row : (profile : ProfileView) (memory : MemoryView) (virtual : VirtualView) → IsSizeOf virtual.picture memory → is_known memory ≡ true → (r : ℕ) (looks : List LookView) → r < virtual.picture.rows → looks ≡ grid_row memory.state.grid r → ShowsRow memory r (Some looks)
 shows_row profile memory virtual size known r looks high are = known_row memory r looks (row_known memory known r (omega (arith, high, size.known_rows))) are
 
--- a row without such columns
-pub unlooked_goes : (ranges : VirtualView → ℕ → Option (ℕ × ℕ)) (profile : ProfileView) (memory : MemoryView) (virtual : VirtualView) → ShowsOutside ranges profile memory virtual → IsSizeOf virtual.picture memory → is_known memory ≡ true
-    → (r : ℕ) → r < virtual.picture.rows → ranges virtual r ≡ None → (old : Joining)
-    → Continues profile old old (flat_map (joined_at profile virtual.picture memory) (filter (differs profile virtual.picture memory) (row_places virtual.picture.columns r)))
-unlooked_goes ranges profile memory virtual same size known r high none old =
-    subst (Continues profile old old) (sym (ap (flat_map (joined_at profile virtual.picture memory)) (row_same ranges profile memory virtual same size known r high none))) (nothing_goes profile old)
+-- a row in which nothing differs
+pub same_goes : (profile : ProfileView) (picture : PictureView) (memory : MemoryView) (r : ℕ) → IsSameRow profile picture memory r → (old : Joining) → Continues profile old old (flat_map (joined_at profile picture memory) (filter (differs profile picture memory) (row_places picture.columns r)))
+same_goes profile picture memory r same old =
+    subst (Continues profile old old) (sym (ap (flat_map (joined_at profile picture memory)) (none_in_part (differs profile picture memory) 0 picture.columns r (λ c low wide. same c (omega (arith, wide)))))) (nothing_goes profile old)
 
 -- ---- all rows
 
@@ -254,6 +253,12 @@ none_left_at profile picture memory same =
     ap (λ n. is_none_left (filter d (places n picture.columns))) (sym whole)
     ∙ ap is_none_left (rows_same d 0 picture.rows picture.columns (λ r low below. none_in_part d 0 picture.columns r (λ c l wide. same r c (omega (arith, below)) (omega (arith, wide)))))
 
+-- whether anything differs
+pub left_or_not : (profile : ProfileView) (picture : PictureView) (memory : MemoryView) (some : Bool) → (some ≡ false → (r c : ℕ) → r < picture.rows → c < picture.columns → differs profile picture memory (r, c) ≡ false)
+    → (some ≡ true → (r : ℕ) × (c : ℕ) × (r < picture.rows) × (c < picture.columns) × (differs profile picture memory (r, c) ≡ true)) → is_none_left (differing profile picture memory) ≡ not some
+left_or_not profile picture memory true none one = let found = one refl in some_left profile picture memory found.0 found.1 found.2 found.3 found.4
+left_or_not profile picture memory false none one = none_left_at profile picture memory (none refl)
+
 -- one row more in which nothing differs
 pub more : (profile : ProfileView) (picture : PictureView) (memory : MemoryView) (row : ℕ) → ((r c : ℕ) → r < row → c < picture.columns → differs profile picture memory (r, c) ≡ false)
     → ((c : ℕ) → c < picture.columns → differs profile picture memory (row, c) ≡ false) → (r c : ℕ) → r < row + 1 → c < picture.columns → differs profile picture memory (r, c) ≡ false
@@ -285,6 +290,10 @@ not_placed false placed e = refl
 pub on_ok : {T E : Type 0} (r : Result T E) (P Q : Type 0) → (P → Q) → OnOk r P → OnOk r Q
 on_ok (Ok a) P Q f h = f h
 on_ok (Err e) P Q f h = h
+
+pub if_ok : {T E : Type 0} (r : Result T E) (P Q : T → Type 0) → ((a : T) → P a → Q a) → IfOk r P → IfOk r Q
+if_ok (Ok a) P Q f h = f a h
+if_ok (Err e) P Q f h = h
 
 -- ---- places that differ with one pen, counted
 

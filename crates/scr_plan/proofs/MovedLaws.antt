@@ -1,5 +1,5 @@
 -- Rows that are settled one after another, once rows were shifted.
-use Rattle.std.proofs.Common.{◌≡◌, ℕ, ◌+◌, ◌-◌, ◌<◌, ◌≤◌, ◌==◌, ◌&&◌, ◌⊎◌, inl, inr, not, nat_le, leb, ltb, Bool, true, false, All, refl, sym, ◌∙◌, ap, subst, arith, List, [], ◌∷◌, ◌++◌, append_assoc, length, slice_index_or, Option, Some, None, IfSome, if◌then◌else◌}
+use Rattle.std.proofs.Common.{◌≡◌, ℕ, ◌+◌, ◌-◌, ◌<◌, ◌≤◌, ◌==◌, ◌&&◌, ◌||◌, ◌⊎◌, inl, inr, not, nat_le, leb, ltb, Bool, true, false, All, refl, sym, ◌∙◌, ap, subst, arith, List, [], ◌∷◌, ◌++◌, append_assoc, length, slice_index_or, Option, Some, None, IfSome, if◌then◌else◌}
 use Rattle.std.proofs.lemmas.Bool.Decides.{nat_tests}
 use Rattle.std.proofs.lemmas.List.{append-nil, get_or_append_left, get_or_push}
 use Rattle.std.proofs.lemmas.List.Folds.{list_all-append}
@@ -23,11 +23,12 @@ use Rattle.scr_plan.proofs.PartLaws.{row_known}
 use Rattle.scr_plan.proofs.PlaceLaws.{one_run, then_runs}
 use Rattle.scr_plan.proofs.PlainLaws.{look_same, not_false}
 use Rattle.scr_plan.proofs.RunChangeLaws.{not_in}
+use Rattle.scr_plan.proofs.RunLaws.{in_both}
 use Rattle.scr_plan.specs.Code.Drafts.{Aim, HasDiffering, IsAdded, IsAimed, KeepsAbove, KeepsEvery, KeepsRuns, in_runs, is_calm}
 use Rattle.scr_plan.specs.Code.Joinings.{counted_up}
 use Rattle.scr_plan.specs.Code.Moves.{IsBegun, IsMoved, IsSent, IsSlide, Sends, shifted_at, shown_at}
 use Rattle.scr_plan.specs.Code.Painters.{painter_look, painter_of, row_differs, shown_in}
-use Rattle.scr_plan.specs.Code.Settled.{Aims, IsShownRow, Settles, ShowsBeside, SlidesRow, aim_settled, aim_slid, in_first, is_moved, look_from, look_settled, slid_at}
+use Rattle.scr_plan.specs.Code.Settled.{Aims, HasShown, HasShownIn, IsShownRow, KeepsStill, Settles, SlidesRow, aim_settled, aim_slid, in_first, is_moved, look_from, look_settled, slid_at}
 use Rattle.scr_memory.specs.Memories.{MemoryView, is_known, moves_rows}
 use Rattle.scr_plan.specs.Repaints.{IsSizeOf, ShowsOutside, look_eq}
 use Rattle.scr_plan.specs.Scratch.{Fits, look_at}
@@ -67,7 +68,7 @@ parted r row = grind arith
 
 -- where the draft shows this in each place, and the picture in the row except in its runs, the row is settled
 pub row_settled : (profile : ProfileView) (picture : PictureView) (shift : Option Shift) (grid : List (List LookView)) (row : ℕ) (look : ℕ × ℕ → LookView) (some more : List Run) (draft : Draft)
-    → ((r c : ℕ) → c < picture.columns → (r < row) ⊎ (row + 1 ≤ r) → look (r, c) ≡ look_settled profile picture shift grid row (r, c)) → KeepsRuns some more → ((c : ℕ) → c < picture.columns → in_runs more (row, c) ≡ false → look (row, c) ≡ look_at profile picture (row, c))
+    → ((r c : ℕ) → c < picture.columns → (r < row) ⊎ (row + 1 ≤ r) → look (r, c) ≡ look_settled profile picture shift grid row (r, c)) → KeepsAbove row some more → ((c : ℕ) → c < picture.columns → in_runs more (row, c) ≡ false → look (row, c) ≡ look_at profile picture (row, c))
     → Aims profile (record { rows = picture.rows; columns = picture.columns; look = look }) (in_first row some) (aim_settled profile picture shift grid (row + 1)) (in_first (row + 1) more) draft draft
 row_settled profile picture shift grid row look some more draft others keeps own paid first start right = record {
   own = right.own;
@@ -85,7 +86,7 @@ row_settled profile picture shift grid row look some more draft others keeps own
     by : (r c : ℕ) → r < picture.rows → c < picture.columns → in_first (row + 1) more (r, c) ≡ false → (r < row) ⊎ ((row ≡ r) ⊎ (row + 1 ≤ r)) → grid_at blank right.now.grid r c ≡ look_settled profile picture shift grid (row + 1) (r, c)
     by r c high wide e (inl under) =
         let free : in_runs more (r, c) ≡ false = first_waits (row + 1) r c more (omega (arith, under)) e in
-        right.shows r c high wide (first_same row r c some (not_in (in_runs some (r, c)) (in_runs more (r, c)) (keeps (r, c)) free))
+        right.shows r c high wide (first_same row r c some (not_in (in_runs some (r, c)) (in_runs more (r, c)) (keeps (r, c) under) free))
         ∙ others r c wide (inl under)
         ∙ above_first profile picture shift grid row r c under
         ∙ sym (above_first profile picture shift grid (row + 1) r c (omega (arith, under)))
@@ -100,27 +101,99 @@ row_settled profile picture shift grid row look some more draft others keeps own
         ∙ from_first profile picture shift grid row r c (omega (arith, over))
         ∙ sym (from_first profile picture shift grid (row + 1) r c over)
 
--- a row whose runs are over what it shows
-pub row_found : (profile : ProfileView) (picture : PictureView) (painter : Painter) → painter ≡ painter_of profile → (shift : Option Shift) (grid : List (List LookView)) (row from end : ℕ) (before : Option (List LookView)) (some more : List Run) (draft : Draft) → from < end
-    → KeepsRuns some more → HasDiffering painter picture row before from end more → IsShownRow picture.columns shift grid row before → ShowsBeside profile picture shift grid row (Some (from, end - 1)) → Settles profile picture shift grid row (row + 1) some more draft draft
-row_found profile picture painter who shift grid row from end before some more draft order keeps has shown beside =
-    row_settled profile picture shift grid row (look_settled profile picture shift grid row) some more draft (λ r c wide beside. refl) keeps
-    (λ c wide e. from_first profile picture shift grid row row c (omega arith) ∙ by c wide e (in_range (Some (from, end - 1)) c) refl)
+-- rows that show the picture except in their runs are settled
+pub rows_stay : (profile : ProfileView) (picture : PictureView) (shift : Option Shift) (grid : List (List LookView)) (n m : ℕ) (runs : List Run) (draft : Draft) → n ≤ m → ((r : ℕ) → n ≤ r → r < m → r < picture.rows → HasShownIn profile picture shift grid runs r)
+    → Settles profile picture shift grid n m runs runs draft draft
+rows_stay profile picture shift grid n m runs draft order shown paid first start right = record {
+  own = right.own;
+  ops = right.ops;
+  now = right.now;
+  run = right.run;
+  calm = right.calm;
+  state = right.state;
+  bytes = right.bytes;
+  spot = right.spot;
+  pen = right.pen;
+  shows = λ r c high wide e. by r c high wide e (ltb r n) refl (ltb r m) refl;
+}
   where
-    by : (c : ℕ) → c < picture.columns → in_runs more (row, c) ≡ false → (b : Bool) → in_range (Some (from, end - 1)) c ≡ b → shown_at shift (grid_at blank grid) row c ≡ look_at profile picture (row, c)
-    by c wide e false out = beside c wide out
-    by c wide e true inside =
-        let low : from ≤ c = grind (arith, nat_tests) in
-        let high : c < end = grind (arith, nat_tests, order) in
-        sym (shown c wide)
-        ∙ look_same (shown_in before c) (painter_look painter picture (row, c)) (not_false (look_eq (shown_in before c) (painter_look painter picture (row, c))) (not_in (row_differs painter picture before (row, c)) (in_runs more (row, c)) (has c low high) e))
-        ∙ ap (λ p. painter_look p picture (row, c)) who
+    by : (r c : ℕ) → r < picture.rows → c < picture.columns → in_first m runs (r, c) ≡ false → (a : Bool) → ltb r n ≡ a → (b : Bool) → ltb r m ≡ b → grid_at blank right.now.grid r c ≡ look_settled profile picture shift grid m (r, c)
+    by r c high wide e true before b at =
+        let under : r < n = grind (arith, nat_tests) in
+        let inside : r < m = omega (arith, under, order) in
+        right.shows r c high wide (first_same n r c runs (first_waits m r c runs inside e))
+        ∙ above_first profile picture shift grid n r c under
+        ∙ sym (above_first profile picture shift grid m r c inside)
+    by r c high wide e false before true at =
+        let over : n ≤ r = grind (arith, nat_tests) in
+        let inside : r < m = grind (arith, nat_tests) in
+        right.shows r c high wide (first_none n r c runs over)
+        ∙ from_first profile picture shift grid n r c over
+        ∙ shown r over inside high c wide (first_waits m r c runs inside e)
+        ∙ sym (above_first profile picture shift grid m r c inside)
+    by r c high wide e false before false at =
+        let over : n ≤ r = grind (arith, nat_tests) in
+        let behind : m ≤ r = grind (arith, nat_tests) in
+        right.shows r c high wide (first_none n r c runs over)
+        ∙ from_first profile picture shift grid n r c over
+        ∙ sym (from_first profile picture shift grid m r c behind)
 
--- a row that is not looked at
-pub row_left : (profile : ProfileView) (picture : PictureView) (shift : Option Shift) (grid : List (List LookView)) (row : ℕ) (some : List Run) (draft : Draft) → ShowsBeside profile picture shift grid row None → Settles profile picture shift grid row (row + 1) some some draft draft
-row_left profile picture shift grid row some draft beside =
-    row_settled profile picture shift grid row (look_settled profile picture shift grid row) some some draft (λ r c wide beside. refl) (λ place e. e)
-    (λ c wide e. from_first profile picture shift grid row row c (omega arith) ∙ beside c wide refl)
+pub row_stays : (profile : ProfileView) (picture : PictureView) (shift : Option Shift) (grid : List (List LookView)) (row : ℕ) (runs : List Run) (draft : Draft) → HasShownIn profile picture shift grid runs row → Settles profile picture shift grid row (row + 1) runs runs draft draft
+row_stays profile picture shift grid row runs draft shown =
+    rows_stay profile picture shift grid row (row + 1) runs draft (omega arith) (λ r low high up. let here : row ≡ r = omega (arith, low, high) in subst (HasShownIn profile picture shift grid runs) here shown)
+
+-- a row whose runs are over what it shows
+pub shown_found : (profile : ProfileView) (picture : PictureView) (painter : Painter) → painter ≡ painter_of profile → (shift : Option Shift) (grid : List (List LookView)) (row : ℕ) (before : Option (List LookView)) (runs : List Run)
+    → HasDiffering painter picture row before 0 picture.columns runs → IsShownRow picture.columns shift grid row before → HasShownIn profile picture shift grid runs row
+shown_found profile picture painter who shift grid row before runs has shown c wide e =
+    sym (shown c wide)
+    ∙ look_same (shown_in before c) (painter_look painter picture (row, c)) (not_false (look_eq (shown_in before c) (painter_look painter picture (row, c))) (not_in (row_differs painter picture before (row, c)) (in_runs runs (row, c)) (has c (omega arith) wide) e))
+    ∙ ap (λ p. painter_look p picture (row, c)) who
+
+-- more runs
+pub shown_kept : (profile : ProfileView) (picture : PictureView) (shift : Option Shift) (grid : List (List LookView)) (row : ℕ) (some more : List Run) → ((place : ℕ × ℕ) → place.0 ≡ row → in_runs some place ≡ true → in_runs more place ≡ true) → HasShownIn profile picture shift grid some row
+    → HasShownIn profile picture shift grid more row
+shown_kept profile picture shift grid row some more keeps shown c wide e = shown c wide (not_in (in_runs some (row, c)) (in_runs more (row, c)) (keeps (row, c) refl) e)
+
+-- one row more
+pub shown_more : (profile : ProfileView) (picture : PictureView) (shift : Option Shift) (grid : List (List LookView)) (top row : ℕ) (some more : List Run) → KeepsRuns some more → ((r : ℕ) → top ≤ r → r < row → HasShownIn profile picture shift grid some r)
+    → HasShownIn profile picture shift grid more row → (r : ℕ) → top ≤ r → r < row + 1 → HasShownIn profile picture shift grid more r
+shown_more profile picture shift grid top row some more keeps before own r low high = by (parted r row)
+  where
+    by : (r < row) ⊎ ((row ≡ r) ⊎ (row + 1 ≤ r)) → HasShownIn profile picture shift grid more r
+    by (inl under) = shown_kept profile picture shift grid r some more (λ place _ e. keeps place e) (before r low under)
+    by (inr (inl here)) = subst (HasShownIn profile picture shift grid more) here own
+    by (inr (inr over)) = absurd (omega (arith, over, high))
+
+-- a row that a shift does not change
+pub not_moved : (shift : Option Shift) (at : ℕ → ℕ → LookView) (r c : ℕ) → is_moved shift r ≡ false → shown_at shift at r c ≡ at r c
+not_moved None at r c e = refl
+not_moved (Some shift) at r c e = go shift.up
+  where
+    go : (b : Bool) → (if b then (if leb shift.top r && ltb r shift.end then (if ltb (r + shift.count) shift.end then at (r + shift.count) c else blank) else at r c) else (if leb shift.top r && ltb r shift.end then (if leb (shift.top + shift.count) r then at (r - shift.count) c else blank) else at r c)) ≡ at r c
+    go true = ap (λ b. if b then (if ltb (r + shift.count) shift.end then at (r + shift.count) c else blank) else at r c) e
+    go false = ap (λ b. if b then (if leb (shift.top + shift.count) r then at (r - shift.count) c else blank) else at r c) e
+
+-- rows that a shift changes, and others, whose runs are kept
+pub shown_shifted : (profile : ProfileView) (picture : PictureView) (shift : Shift) (grid : List (List LookView)) (above found some more most all : List Run) → found ≡ above ++ some → HasShown profile picture None grid 0 found
+    → KeepsStill shift above more → KeepsRuns more most → ((r : ℕ) → shift.top ≤ r → r < shift.end → HasShownIn profile picture (Some shift) grid most r) → KeepsRuns most all → KeepsStill shift some all → HasShown profile picture (Some shift) grid 0 all
+shown_shifted profile picture shift grid above found some more most all is shown first keeps moved keeps_more rest r low high = by (is_moved (Some shift) r) refl
+  where
+    none : (c : ℕ) → in_runs all (r, c) ≡ false → (a b : Bool) → (a ≡ true → in_runs all (r, c) ≡ true) → (b ≡ true → in_runs all (r, c) ≡ true) → (a || b) ≡ false
+    none c e true b f g = (cc (f refl, e))
+    none c e false true f g = (cc (g refl, e))
+    none c e false false f g = refl
+
+    by : (b : Bool) → is_moved (Some shift) r ≡ b → HasShownIn profile picture (Some shift) grid all r
+    by true at c wide e =
+        let under : shift.top ≤ r = grind (arith, nat_tests) in
+        let inside : r < shift.end = grind (arith, nat_tests) in
+        shown_kept profile picture (Some shift) grid r most all (λ place _ e. keeps_more place e) (moved r under inside) c wide e
+    by false still c wide e =
+        not_moved (Some shift) (grid_at blank grid) r c still
+        ∙ shown r low high c wide
+        (ap (λ runs. in_runs runs (r, c)) is ∙ in_both above some (r, c)
+        ∙ none c e (in_runs above (r, c)) (in_runs some (r, c)) (λ h. keeps_more (r, c) (keeps (r, c) (first (r, c) still h))) (rest (r, c) still))
 
 -- ---- a slide
 
@@ -257,7 +330,7 @@ slid_alike columns row slide at by c wide same = go slide.inserts
 -- a row that was slid, whose runs are over what was put together
 pub slid_settled : (profile : ProfileView) (picture : PictureView) (painter : Painter) → painter ≡ painter_of profile → (shift : Option Shift) (grid : List (List LookView)) (row : ℕ) (slide : Slide) (looks room : List LookView) (some more : List Run) (old mid new : Draft)
     → SlidesRow profile picture row slide old mid → new ≡ mid → length looks ≡ picture.columns → ((row c : ℕ) → c < length looks → slice_index_or room c blank ≡ slid_at (length looks) row slide (λ _ c. slice_index_or looks c blank) row c)
-    → KeepsRuns some more → HasDiffering painter picture row (Some room) 0 picture.columns more → IsShownRow picture.columns shift grid row (Some looks) → Settles profile picture shift grid row (row + 1) some more old new
+    → KeepsAbove row some more → HasDiffering painter picture row (Some room) 0 picture.columns more → IsShownRow picture.columns shift grid row (Some looks) → Settles profile picture shift grid row (row + 1) some more old new
 slid_settled profile picture painter who shift grid row slide looks room some more old mid new slides same whole room_is keeps has shown paid first start right =
     let aim : Aim = aim_settled profile picture shift grid row in
     let look : ℕ × ℕ → LookView = (aim_slid aim row slide).look in
@@ -272,94 +345,9 @@ slid_settled profile picture painter who shift grid row slide looks room some mo
     ∙ ap (λ p. painter_look p picture (row, c)) who)
     paid first start (slides aim (in_first row some) refl refl (λ c. first_none row row c some (omega arith)) paid first start right))
 
--- ---- rows that stay
-
-pub not_moved : (shift : Option Shift) (at : ℕ → ℕ → LookView) (r c : ℕ) → is_moved shift r ≡ false → shown_at shift at r c ≡ at r c
-not_moved None at r c e = refl
-not_moved (Some shift) at r c e = go shift.up
-  where
-    go : (b : Bool) → (if b then (if leb shift.top r && ltb r shift.end then (if ltb (r + shift.count) shift.end then at (r + shift.count) c else blank) else at r c) else (if leb shift.top r && ltb r shift.end then (if leb (shift.top + shift.count) r then at (r - shift.count) c else blank) else at r c)) ≡ at r c
-    go true = ap (λ b. if b then (if ltb (r + shift.count) shift.end then at (r + shift.count) c else blank) else at r c) e
-    go false = ap (λ b. if b then (if leb (shift.top + shift.count) r then at (r - shift.count) c else blank) else at r c) e
-
-above_moved : (shift : Option Shift) (from r : ℕ) → IfSome shift (λ shift. from ≤ shift.top) → r < from → is_moved shift r ≡ false
-above_moved None from r below under = refl
-above_moved (Some shift) from r below under = let top : r < shift.top = omega (arith, below, under) in grind (arith, nat_tests)
-
-below_moved : (shift : Option Shift) (end r : ℕ) → IfSome shift (λ shift. end ≡ shift.end) → end ≤ r → is_moved shift r ≡ false
-below_moved None end r is over = refl
-below_moved (Some shift) end r is over = grind (arith, nat_tests)
-
--- a row that is not moved shows the picture, except in these columns; one that is moved is looked at as a whole
-pub beside_range : (ranges : VirtualView → ℕ → Option (ℕ × ℕ)) (profile : ProfileView) (memory : MemoryView) (virtual : VirtualView) → ShowsOutside ranges profile memory virtual → IsSizeOf virtual.picture memory → is_known memory ≡ true
-    → (shift : Option Shift) (row : ℕ) → row < virtual.picture.rows → is_moved shift row ≡ false → ShowsBeside profile virtual.picture shift memory.state.grid row (ranges virtual row)
-beside_range ranges profile memory virtual same size known shift row high still c wide out =
-    not_moved shift (grid_at blank memory.state.grid) row c still ∙ same row c high wide (row_known memory known row (omega (arith, high, size.known_rows))) out
-
-pub beside_none : (profile : ProfileView) (picture : PictureView) (shift : Option Shift) (grid : List (List LookView)) (row : ℕ) → ShowsBeside profile picture shift grid row (Some (0, picture.columns - 1))
-beside_none profile picture shift grid row c wide out = (grind (arith, nat_tests, wide, out))
-
--- rows from one on that are neither moved nor looked at
-pub rest_settled : (ranges : VirtualView → ℕ → Option (ℕ × ℕ)) (profile : ProfileView) (memory : MemoryView) (virtual : VirtualView) → ShowsOutside ranges profile memory virtual → IsSizeOf virtual.picture memory → is_known memory ≡ true
-    → (shift : Option Shift) (end moved n : ℕ) → IfSome shift (λ shift. moved ≡ shift.end) → moved ≤ n → end ≤ n → ((r : ℕ) → end ≤ r → r < virtual.picture.rows → ranges virtual r ≡ None) → (runs : List Run) (draft : Draft)
-    → Settles profile virtual.picture shift memory.state.grid n virtual.picture.rows runs runs draft draft
-rest_settled ranges profile memory virtual same size known shift end moved n moved_is over_moved over none runs draft paid first start right =
-    let picture : PictureView = virtual.picture in
-    let grid : List (List LookView) = memory.state.grid in
-    record {
-      own = right.own;
-      ops = right.ops;
-      now = right.now;
-      run = right.run;
-      calm = right.calm;
-      state = right.state;
-      bytes = right.bytes;
-      spot = right.spot;
-      pen = right.pen;
-      shows = λ r c high wide e.
-          by r c high wide (first_waits picture.rows r c runs high e) (ltb r n) refl
-          ∙ sym (above_first profile picture shift grid picture.rows r c high);
-    }
-  where
-    by : (r c : ℕ) → r < virtual.picture.rows → c < virtual.picture.columns → in_runs runs (r, c) ≡ false → (b : Bool) → ltb r n ≡ b → grid_at blank right.now.grid r c ≡ look_at profile virtual.picture (r, c)
-    by r c high wide e true at =
-        let under : r < n = grind (arith, nat_tests) in
-        right.shows r c high wide (first_same n r c runs e) ∙ above_first profile virtual.picture shift memory.state.grid n r c under
-    by r c high wide e false at =
-        let low : n ≤ r = grind (arith, nat_tests) in
-        right.shows r c high wide (first_same n r c runs e)
-        ∙ from_first profile virtual.picture shift memory.state.grid n r c low
-        ∙ not_moved shift (grid_at blank memory.state.grid) r c (below_moved shift moved r moved_is (omega (arith, low, over_moved)))
-        ∙ same r c high wide (row_known memory known r (omega (arith, high, size.known_rows))) (ap (λ range. in_range range c) (none r (omega (arith, low, over)) high))
-
--- the runs above are kept
-pub above_settled : (profile : ProfileView) (picture : PictureView) (shift : Option Shift) (grid : List (List LookView)) (n : ℕ) (some more : List Run) (draft : Draft) → KeepsAbove n some more → Settles profile picture shift grid n n some more draft draft
-above_settled profile picture shift grid n some more draft keeps paid first start right = record {
-  own = right.own;
-  ops = right.ops;
-  now = right.now;
-  run = right.run;
-  calm = right.calm;
-  state = right.state;
-  bytes = right.bytes;
-  spot = right.spot;
-  pen = right.pen;
-  shows = λ r c high wide e. right.shows r c high wide (by r c e (ltb r n) refl);
-}
-  where
-    by : (r c : ℕ) → in_first n more (r, c) ≡ false → (b : Bool) → ltb r n ≡ b → in_first n some (r, c) ≡ false
-    by r c e true at =
-        let under : r < n = grind (arith, nat_tests) in
-        first_same n r c some (not_in (in_runs some (r, c)) (in_runs more (r, c)) (keeps (r, c) under) (first_waits n r c more under e))
-    by r c e false at = let low : n ≤ r = grind (arith, nat_tests) in first_none n r c some low
-
 pub settles_then : (profile : ProfileView) (picture : PictureView) (shift : Option Shift) (grid : List (List LookView)) (n m k : ℕ) (some more most : List Run) (old mid new : Draft) → Settles profile picture shift grid n m some more old mid → Settles profile picture shift grid m k more most mid new
     → Settles profile picture shift grid n k some most old new
 settles_then profile picture shift grid n m k some more most old mid new one other paid first start right = other paid first start (one paid first start right)
-
--- the runs of the row are dropped before it is settled
-pub dropped_settled : (profile : ProfileView) (picture : PictureView) (shift : Option Shift) (grid : List (List LookView)) (n m : ℕ) (some found kept more : List Run) (old new : Draft) → KeepsRuns some found → KeepsAbove n found kept → Settles profile picture shift grid n m kept more old new → Settles profile picture shift grid n m some more old new
-dropped_settled profile picture shift grid n m some found kept more old new keeps above settles = settles_then profile picture shift grid n n m some kept more old old new (above_settled profile picture shift grid n some kept old (λ place under e. above place under (keeps place e))) settles
 
 -- ---- from what is remembered
 
@@ -374,17 +362,15 @@ begun_sent profile memory draft begun is = record {
   pen = sym begun.pen;
 }
 
--- a shift was sent, if any, and the rows from one on are settled
-pub settled_moves : GridLaws LookView → (ranges : VirtualView → ℕ → Option (ℕ × ℕ)) (profile : ProfileView) (memory : MemoryView) (virtual : VirtualView) → Fits profile virtual.picture → ShowsOutside ranges profile memory virtual → IsSizeOf virtual.picture memory → is_known memory ≡ true → IsState (abilities profile) memory.state
-    → (shift : Option Shift) (from : ℕ) → IfSome shift (λ shift. from ≤ shift.top) → ((r : ℕ) → r < from → r < virtual.picture.rows → ranges virtual r ≡ None)
-    → (some more : List Run) (old mid new : Draft) → IsBegun memory old → Sends profile (shown_at shift) old mid → Settles profile virtual.picture shift memory.state.grid from virtual.picture.rows some more mid new
-    → IsMoved profile virtual.picture memory.state (in_runs more) new
-settled_moves grids ranges profile memory virtual fits same size known is shift from above none some more old mid new begun sends settles =
-    let picture : PictureView = virtual.picture in
+-- a shift was sent, if any, and the rows are settled
+pub settled_moves : GridLaws LookView → (profile : ProfileView) (memory : MemoryView) (picture : PictureView) → Fits profile picture → IsState (abilities profile) memory.state
+    → (shift : Option Shift) (some more : List Run) (old mid new : Draft) → IsBegun memory old → Sends profile (shown_at shift) old mid → Settles profile picture shift memory.state.grid 0 picture.rows some more mid new
+    → IsMoved profile picture memory.state (in_runs more) new
+settled_moves grids profile memory picture fits is shift some more old mid new begun sends settles =
     let grid : List (List LookView) = memory.state.grid in
     let sent : IsSent profile memory.state (grid_of profile.rows profile.columns (shown_at shift (grid_at blank grid))) mid = sends memory.state grid (begun_sent profile memory old begun is) in
     let paid : ℕ = length (all_bytes profile mid.ops.items) in
-    let before : IsAimed profile (aim_settled profile picture shift grid from) paid mid.ops.items sent.now (in_first from some) mid = record {
+    let before : IsAimed profile (aim_settled profile picture shift grid 0) paid mid.ops.items sent.now (in_first 0 some) mid = record {
       own = [];
       ops = sym (append-nil mid.ops.items);
       now = sent.now;
@@ -397,7 +383,7 @@ settled_moves grids ranges profile memory virtual fits same size known is shift 
       shows = λ r c high wide e.
           ap (λ g. grid_at blank g r c) sent.grid_is
           ∙ grids.formula blank profile.rows profile.columns (shown_at shift (grid_at blank grid)) r c (omega (arith, high, fits.rows)) (omega (arith, wide, fits.columns))
-          ∙ by r c high wide e (ltb r from) refl;
+          ∙ sym (from_first profile picture shift grid 0 r c (omega arith));
     } in
     let right = settles paid mid.ops.items sent.now before in
     record {
@@ -417,14 +403,6 @@ settled_moves grids ranges profile memory virtual fits same size known is shift 
         shows = λ r c high wide e. right.shows r c high wide (first_same picture.rows r c more e) ∙ above_first profile picture shift grid picture.rows r c high;
       };
     }
-  where
-    by : (r c : ℕ) → r < virtual.picture.rows → c < virtual.picture.columns → in_first from some (r, c) ≡ false → (b : Bool) → ltb r from ≡ b → shown_at shift (grid_at blank memory.state.grid) r c ≡ look_settled profile virtual.picture shift memory.state.grid from (r, c)
-    by r c high wide e true at =
-        let under : r < from = grind (arith, nat_tests) in
-        not_moved shift (grid_at blank memory.state.grid) r c (above_moved shift from r above under)
-        ∙ same r c high wide (row_known memory known r (omega (arith, high, size.known_rows))) (ap (λ range. in_range range c) (none r under high))
-        ∙ sym (above_first profile virtual.picture shift memory.state.grid from r c under)
-    by r c high wide e false at = let low : from ≤ r = grind (arith, nat_tests) in sym (from_first profile virtual.picture shift memory.state.grid from r c low)
 
 -- only the room for operations became another
 pub same_moved : (profile : ProfileView) (picture : PictureView) (start : TerminalState) (waits : ℕ × ℕ → Bool) (old new : Draft) → new.ops.items ≡ old.ops.items → new.bytes ≡ old.bytes → new.spot ≡ old.spot → new.pen ≡ old.pen

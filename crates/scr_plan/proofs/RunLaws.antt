@@ -1,11 +1,17 @@
 -- Runs that wait: what is in them.
-use Rattle.std.proofs.Common.{◌≡◌, ℕ, zero, suc, ◌&&◌, ◌||◌, not, Bool, true, false, refl, sym, ◌∙◌, ap, arith, List, [], ◌∷◌, ◌++◌, get_or, set}
+use Rattle.std.proofs.Common.{◌≡◌, ℕ, zero, suc, ◌+◌, ◌-◌, ◌<◌, ◌≤◌, ◌==◌, ◌&&◌, ◌||◌, not, Bool, true, false, refl, sym, ◌∙◌, ap, arith, List, [], ◌∷◌, ◌++◌, drop, get_or, length, length-drop, ltb, option_map, set, take, Some}
 use Rattle.std.proofs.lemmas.Bool.Decides.{nat_tests}
+use Rattle.std.proofs.lemmas.List.{take_all}
 use Rattle.scr_cells.specs.PictureViews.{PictureView}
 use Rattle.scr_term.specs.Operations.Profiles.{ProfileView}
 use Rattle.scr_plan.proofs.DraftLaws.{weaker}
-use Rattle.scr_plan.specs.Code.Drafts.{Covers, KeepsAll, Leaves, in_runs, is_in, no_run, without}
+use Rattle.scr_plan.specs.Code.Drafts.{Covers, KeepsAll, KeepsOthers, KeepsRuns, Leaves, in_runs, is_in, no_run, without}
+use Rattle.scr_plan.specs.Code.Painters.{row_differs}
+use Rattle.scr_plan.specs.Code.Runs.{CutsOff, IsSameRow, differs_at}
+use Rattle.scr_plan.specs.Code.Settled.{KeepsStill, is_moved}
+use Rattle.scr_plan.specs.declared.runs.Cut.{Cut}
 use Rattle.scr_prices.specs.declared.runs.Run.{Run}
+use Rattle.scr_prices.specs.declared.shifts.Shift.{Shift}
 use Rattle.scr_plan.specs.declared.strokes.Draft.{Draft}
 
 -- ---- runs that are visited
@@ -71,3 +77,95 @@ leaves_then profile picture runs some left old mid new one other paid first star
 
 pub leaves_keeps : (profile : ProfileView) (picture : PictureView) (runs left : List Run) (old mid new : Draft) → Leaves profile picture runs left old mid → KeepsAll profile picture mid new → Leaves profile picture runs left old new
 leaves_keeps profile picture runs left old mid new one other paid first start right = other (in_runs left) paid first start (one paid first start right)
+
+-- the rest of a list, as a slice of it
+pub rest_of : (n : ℕ) (runs : List Run) → take (length runs - n) (drop n runs) ≡ drop n runs
+rest_of n runs = take_all (length runs - n) (drop n runs) (omega (arith, length-drop n runs))
+
+-- ---- runs that are found again
+
+or_left : (a b : Bool) → a ≡ true → (a || b) ≡ true
+or_left true b e = refl
+or_left false b e = (cc)
+
+or_right : (a b : Bool) → b ≡ true → (a || b) ≡ true
+or_right true b e = refl
+or_right false b e = e
+
+-- what is in one of some runs is in one of more
+pub in_more : (some ys more : List Run) → more ≡ some ++ ys → KeepsRuns some more
+in_more some ys more is place e = ap (λ runs. in_runs runs place) is ∙ in_both some ys place ∙ or_left (in_runs some place) (in_runs ys place) e
+
+-- the runs of a row are taken out: what is in another row is in a run before them or after them
+taken_out : (runs : List Run) (begun after row : ℕ) → begun ≤ after → after ≤ length runs → ((k : ℕ) (other : Run) → begun ≤ k → k < after → (get_or runs k other).row ≡ row)
+    → (place : ℕ × ℕ) → (place.0 == row) ≡ false → in_runs runs place ≡ true → (in_runs (take begun runs) place || in_runs (drop after runs) place) ≡ true
+taken_out [] begun after row order inside own place out e = (cc)
+taken_out (run ∷ runs) zero zero row order inside own place out e = e
+taken_out (run ∷ runs) zero (suc after) row order inside own place out e =
+    let its : run.row ≡ row = own 0 no_run (omega arith) (omega arith) in
+    let off : is_in run place ≡ false = grind (arith, nat_tests) in
+    taken_out runs zero after row (omega arith) (omega (arith, inside)) (λ k other low high. own (suc k) other (omega arith) (omega (arith, high))) place out (sym (ap (λ b. b || in_runs runs place) off) ∙ e)
+taken_out (run ∷ runs) (suc begun) zero row order inside own place out e = absurd (omega (arith, order))
+taken_out (run ∷ runs) (suc begun) (suc after) row order inside own place out e = by (is_in run place) e (taken_out runs begun after row (omega (arith, order)) (omega (arith, inside)) (λ k other low high. own (suc k) other (omega (arith, low)) (omega (arith, high))) place out)
+  where
+    by : (b : Bool) → (b || in_runs runs place) ≡ true → (in_runs runs place ≡ true → (in_runs (take begun runs) place || in_runs (drop after runs) place) ≡ true) → ((b || in_runs (take begun runs) place) || in_runs (drop after runs) place) ≡ true
+    by true e rest = refl
+    by false e rest = rest e
+
+-- others come in their place
+pub found_again : (runs some more : List Run) (begun after row : ℕ) → begun ≤ after → after ≤ length runs → ((k : ℕ) (other : Run) → begun ≤ k → k < after → (get_or runs k other).row ≡ row)
+    → KeepsRuns (take begun runs) some → more ≡ some ++ drop after runs → KeepsOthers row runs more
+found_again runs some more begun after row order inside own keeps is place out e =
+    ap (λ runs. in_runs runs place) is ∙ in_both some (drop after runs) place
+    ∙ by (in_runs (take begun runs) place) (in_runs (drop after runs) place) (keeps place) (taken_out runs begun after row order inside own place out e)
+  where
+    by : (a b : Bool) → (a ≡ true → in_runs some place ≡ true) → (a || b) ≡ true → (in_runs some place || b) ≡ true
+    by true b into e = or_left (in_runs some place) b (into refl)
+    by false b into e = or_right (in_runs some place) b e
+
+-- ---- runs that are cut off
+
+-- one run more
+pub one_more : (some more : List Run) (run : Run) (place : ℕ × ℕ) → more ≡ some ++ run ∷ [] → is_in run place ≡ true → in_runs more place ≡ true
+one_more some more run place is e =
+    ap (λ runs. in_runs runs place) is ∙ in_both some (run ∷ []) place ∙ or_right (in_runs some place) (is_in run place || false) (or_left (is_in run place) false e)
+
+pub same_row : (old mid new : Cut) → IsSameRow old mid → IsSameRow mid new → IsSameRow old new
+same_row old mid new one other = record { scene = other.scene ∙ one.scene; line = other.line ∙ one.line; last = other.last ∙ one.last }
+
+-- what differs in the columns that were cut off is in the runs
+pub cut_more : (start old new : Cut) (run : Run) (some more : List Run) → IsSameRow start old → CutsOff old new run → more ≡ some ++ run ∷ []
+    → ((c : ℕ) → start.column ≤ c → c < old.column → differs_at start c ≡ true → in_runs some (start.line.row, c) ≡ true)
+    → (c : ℕ) → start.column ≤ c → c < new.column → differs_at start c ≡ true → in_runs more (start.line.row, c) ≡ true
+cut_more start old new run some more same cuts is has c low high differs = by (ltb c old.column) refl
+  where
+    by : (b : Bool) → ltb c old.column ≡ b → in_runs more (start.line.row, c) ≡ true
+    by true at = let under : c < old.column = grind (arith, nat_tests) in in_more some (run ∷ []) more is (start.line.row, c) (has c low under differs)
+    by false at =
+        let over : old.column ≤ c = grind (arith, nat_tests) in
+        let there : differs_at old c ≡ true = (λ i. row_differs (same.scene i).painter (same.scene i).picture.now (option_map (λ looks. looks.now) (same.line i).before) ((same.line i).row, c)) ∙ differs in
+        one_more some more run (start.line.row, c) is (ap (λ line. is_in run (line.row, c)) (sym same.line) ∙ cuts.has c over high there)
+
+-- ---- runs of rows that a shift does not change
+
+still_taken : (found : List Run) (n : ℕ) (run : Run) (place : ℕ × ℕ) → take (n + 1) found ≡ take n found ++ run ∷ [] → in_runs (take (n + 1) found) place ≡ (in_runs (take n found) place || is_in run place)
+still_taken found n run place is = ap (λ runs. in_runs runs place) is ∙ in_both (take n found) (run ∷ []) place ∙ ap (λ b. in_runs (take n found) place || b) (or_nothing (is_in run place))
+
+-- one that is kept, and one that is not because the shift changes its row
+pub still_kept : (shift : Shift) (found some more : List Run) (n : ℕ) (run : Run) → take (n + 1) found ≡ take n found ++ run ∷ [] → more ≡ some ++ run ∷ [] → KeepsStill shift (take n found) some → KeepsStill shift (take (n + 1) found) more
+still_kept shift found some more n run taken is keeps place still e = by (in_runs (take n found) place) (is_in run place) refl refl (sym (still_taken found n run place taken) ∙ e)
+  where
+    by : (a b : Bool) → in_runs (take n found) place ≡ a → is_in run place ≡ b → (a || b) ≡ true → in_runs more place ≡ true
+    by true b before here e = in_more some (run ∷ []) more is place (keeps place still before)
+    by false true before here e = one_more some more run place is here
+    by false false before here e = (cc)
+
+pub still_passed : (shift : Shift) (found some : List Run) (n : ℕ) (run : Run) → take (n + 1) found ≡ take n found ++ run ∷ [] → is_moved (Some shift) run.row ≡ true → KeepsStill shift (take n found) some → KeepsStill shift (take (n + 1) found) some
+still_passed shift found some n run taken moved keeps place still e = by (in_runs (take n found) place) (is_in run place) refl refl (sym (still_taken found n run place taken) ∙ e)
+  where
+    by : (a b : Bool) → in_runs (take n found) place ≡ a → is_in run place ≡ b → (a || b) ≡ true → in_runs some place ≡ true
+    by true b before here e = keeps place still before
+    by false true before here e =
+        let row : place.0 ≡ run.row = grind (arith, nat_tests) in
+        (cc (moved, still, ap (is_moved (Some shift)) row))
+    by false false before here e = (cc)

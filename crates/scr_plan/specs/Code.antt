@@ -5,5 +5,6 @@ pub mod Looking
 pub mod Moves
 pub mod Painters
 pub mod Planning
+pub mod Runs
 pub mod Scenes
 pub mod Settled

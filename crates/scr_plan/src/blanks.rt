@@ -1,5 +1,5 @@
 //! Finding blanks in a row of cells, and whether they are worth an erasure.
-ghost use Rattle.std.specs.Prelude.{◌<◌, ◌≤◌, IfSome, length};
+ghost use Rattle.std.specs.Prelude.{◌≡◌, ◌<◌, ◌≤◌, IfSome, length, true};
 ghost use Rattle.scr_plan.specs.Code.Scenes.{IsLine};
 
 use crate::scenes::{Line, Scene};
@@ -71,7 +71,9 @@ pub(crate) fn least_worth_erasing(profile: &Profile) -> u32
 // Whether `count` blanks cost more than their erasure, plus a motion after them if the run goes on
 // there.
 #[inline(always)]
-pub(crate) fn is_worth_erasing(profile: &Profile, count: u32, goes_on: bool) -> bool {
+pub(crate) fn is_worth_erasing(profile: &Profile, count: u32, goes_on: bool) -> bool
+    ensures { result ≡ true → 1 < count }
+{
     if count <= 1 {
         return false;
     }

@@ -1,67 +1,33 @@
 //! The joined repaint of what differs from what is remembered, and of what differs from a blank
 //! screen.
-ghost use Rattle.std.specs.Prelude.{ℕ, ◌≡◌, ◌≢◌, ◌++◌, ◌<◌, not, None, OnOk, false, filter, true};
+ghost use Rattle.std.specs.Prelude.{◌≡◌, ◌≢◌, ◌++◌, ◌<◌, ◌≤◌, None, OnOk, filter, length, true};
 ghost use Rattle.std.specs.List.{flat_map};
 ghost use Rattle.scr_plan.specs.Code.Joinings.{Continues, CountsAtMost, joined_at};
 ghost use Rattle.scr_memory.specs.Memories.{is_known};
-ghost use Rattle.scr_plan.specs.Repaints.{cleared, differing, differs, is_none_left, joined_places};
+ghost use Rattle.scr_plan.specs.Code.Planning.{AreSame};
+ghost use Rattle.scr_plan.specs.Repaints.{cleared, differs, joined_places};
 ghost use Rattle.scr_plan.specs.Scratch.{places_cursor, resets, row_places};
 ghost use Rattle.scr_plan.specs.Code.Scenes.{IsScene, IsUpdate};
 
 use crate::joining::Joining;
-use crate::scenes::{Line, Scene, Update};
+use crate::scenes::{Scene, Update};
 use scr_cells::NoMemory;
 use scr_term::run_laws;
 
-// Whether any place differs from what is known of it.
-pub(crate) fn differs(update: &Update<'_>) -> bool
-    requires update { IsUpdate update.now }
-    requires known { is_known update.now.memory.now ≡ true }
-    ensures { result ≡ not (is_none_left (differing update.now.scene.profile.now update.now.wanted.now.picture update.now.memory.now)) }
-{
-    let _size = update.wanted.size();
-    let (first, end) = update.by.rows(update.wanted);
-    for row in first..end {
-        if differs_in(update, row) {
-            return true;
-        }
-    }
-    false
-}
-
-// Whether any place of a row differs from what is known of it.
-fn differs_in(update: &Update<'_>, row: u32) -> bool
-    requires update { IsUpdate update.now }
-    requires known { is_known update.now.memory.now ≡ true }
-    requires row { row < update.now.wanted.now.picture.rows }
-    ensures none { result ≡ false → (c : ℕ) → c < update.now.wanted.now.picture.columns → differs update.now.scene.profile.now update.now.wanted.now.picture update.now.memory.now (row, c) ≡ false }
-    ensures one { result ≡ true → (c : ℕ) × (c < update.now.wanted.now.picture.columns) × (differs update.now.scene.profile.now update.now.wanted.now.picture update.now.memory.now (row, c) ≡ true) }
-{
-    let Some((from, last)) = update.by.in_row(update.wanted, row) else {
-        return false;
-    };
-    let _size = update.wanted.size();
-    let scene = &update.scene;
-    let looks = Some(update.memory.looks(row));
-    let line = Line {
-        row,
-        cells: scene.picture.row(row),
-        before: looks,
-    };
-    scene.unlike_from(&line, from, last + 1) <= last
-}
-
 impl Joining {
     // Adds what paints each place that differs from what is known of it, then what places the
-    // cursor. It goes row by row, and stops early once there are more bytes than the limit, if
-    // there is one.
+    // cursor. It goes by the rows that are marked, since no other differs, and stops early once
+    // there are more bytes than the limit, if there is one.
     pub(crate) fn join_changes(
         &mut self,
         update: &Update<'_>,
+        rows: &[bool],
         limit: Option<usize>,
     ) -> Result<(), NoMemory>
         requires update { IsUpdate update.now }
         requires known { is_known update.now.memory.now ≡ true }
+        requires wide { update.now.wanted.now.picture.rows ≤ length rows.now }
+        requires rows { AreSame update.now.scene.profile.now update.now.wanted.now.picture update.now.memory.now rows.now update.now.wanted.now.picture.rows }
         ensures all { OnOk result (limit ≡ None → Continues update.now.scene.profile.now self.old self.new (joined_places update.now.scene.profile.now update.now.wanted.now.picture update.now.memory.now ++ resets update.now.scene.profile.now ++ places_cursor update.now.wanted.now.picture.wish)) }
         ensures most { OnOk result (CountsAtMost update.now.scene.profile.now self.old self.new (joined_places update.now.scene.profile.now update.now.wanted.now.picture update.now.memory.now ++ resets update.now.scene.profile.now ++ places_cursor update.now.wanted.now.picture.wish)) }
     {
@@ -72,7 +38,7 @@ impl Joining {
             if self.is_above(limit) {
                 return Ok(());
             }
-            self.join_changed(update, row)?;
+            self.join_changed(update, rows, row)?;
         }
         self.finish(&update.scene)
     }
@@ -87,14 +53,25 @@ impl Joining {
         }
     }
 
-    // Adds what paints each place of a row that differs from what is known of it.
-    fn join_changed(&mut self, update: &Update<'_>, row: u32) -> Result<(), NoMemory>
+    // Adds what paints each place of a row that differs from what is known of it, if the row is
+    // marked.
+    fn join_changed(
+        &mut self,
+        update: &Update<'_>,
+        rows: &[bool],
+        row: u32,
+    ) -> Result<(), NoMemory>
         requires update { IsUpdate update.now }
         requires known { is_known update.now.memory.now ≡ true }
+        requires wide { update.now.wanted.now.picture.rows ≤ length rows.now }
+        requires rows { AreSame update.now.scene.profile.now update.now.wanted.now.picture update.now.memory.now rows.now update.now.wanted.now.picture.rows }
         requires row { row < update.now.wanted.now.picture.rows }
         ensures { OnOk result (Continues update.now.scene.profile.now self.old self.new (flat_map (joined_at update.now.scene.profile.now update.now.wanted.now.picture update.now.memory.now) (filter (differs update.now.scene.profile.now update.now.wanted.now.picture update.now.memory.now) (row_places update.now.wanted.now.picture.columns row)))) }
     {
         let _size = update.wanted.size();
+        if !rows[row as usize] {
+            return Ok(());
+        }
         match update.by.in_row(update.wanted, row) {
             Some((from, last)) => {
                 let looks = Some(update.memory.looks(row));

@@ -8,14 +8,13 @@ ghost use Rattle.scr_term.specs.Operations.States.{IsShownPen};
 ghost use Rattle.scr_term.specs.Operations.Texts.{all_bytes};
 ghost use Rattle.scr_virtual.specs.VirtualViews.{range_at};
 ghost use Rattle.scr_plan.specs.Code.Joinings.{counted_up};
-ghost use Rattle.scr_plan.specs.Code.Planning.{painted_anew, range_by};
+ghost use Rattle.scr_plan.specs.Code.Planning.{AreSame, painted_anew, range_by};
 ghost use Rattle.scr_memory.specs.Memories.{is_known, is_placed};
 ghost use Rattle.scr_plan.specs.Plans.{IsPlan};
 ghost use Rattle.scr_plan.specs.Repaints.{IsSizeOf, IsUpToDate, ShowsOutside, anew_of, differing, is_none_left, joined_of};
 ghost use Rattle.scr_plan.specs.Scratch.{Fits};
 ghost use Rattle.scr_plan.specs.Code.Scenes.{IsScene, IsUpdate};
 
-use crate::joined_changes::differs;
 use crate::joining::{Joining, price_of};
 use crate::looked::Looked;
 use crate::painting::Painter;
@@ -259,27 +258,25 @@ fn changes(alloc: Global, update: &Update<'_>) -> Result<Ops, NoMemory>
     let _profile = update.scene.profile.size();
     let _memory = update.memory.size();
     let _wanted = update.wanted.size();
-    if is_nothing_left(update) {
+    let is_placed = update.memory.is_placed(update.wanted.picture().wish());
+    if is_placed && update.looks_at_none() {
         return Ok(Ops(Vec::new(alloc)));
     }
-    let draft = short_changes(alloc, update)?;
-    let bytes = bytes_of_joined(alloc, update, draft.bytes)?;
+    let mut runs = Vec::new(alloc);
+    let mut rows = [false; MOST_ROWS];
+    if !update.find_changes(&mut runs, &mut rows)? && is_placed {
+        return Ok(Ops(Vec::new(alloc)));
+    }
+    let draft = short_changes(alloc, update, runs)?;
+    let bytes = bytes_of_joined(alloc, update, &rows, draft.bytes)?;
     if draft.is_worth(bytes, update.wanted.size()) {
         return Ok(Ops(draft.ops));
     }
-    joined(alloc, update)
+    joined(alloc, update, &rows)
 }
 
-// Whether no place differs, and the cursor is where it is wanted.
-fn is_nothing_left(update: &Update<'_>) -> bool
-    requires update { IsUpdate update.now }
-    requires known { is_known update.now.memory.now ≡ true }
-    ensures none { result ≡ true → is_none_left (differing update.now.scene.profile.now update.now.wanted.now.picture update.now.memory.now) ≡ true }
-    ensures placed { result ≡ true → is_placed update.now.memory.now update.now.wanted.now.picture.wish ≡ true }
-    ensures some { result ≡ false → (is_none_left (differing update.now.scene.profile.now update.now.wanted.now.picture update.now.memory.now) && is_placed update.now.memory.now update.now.wanted.now.picture.wish) ≡ false }
-{
-    update.memory.is_placed(update.wanted.picture().wish()) && !differs(update)
-}
+// The most rows that a screen has.
+const MOST_ROWS: usize = 500;
 
 // Room for the operations that usually lead to a place: they are counted, and not kept.
 const FEW_OPERATIONS: usize = 16;
@@ -287,31 +284,40 @@ const FEW_OPERATIONS: usize = 16;
 // The number of bytes of the joined repaint. If that is above the limit, it may be any number
 // between the two.
 #[inline(never)]
-fn bytes_of_joined(alloc: Global, update: &Update<'_>, limit: usize) -> Result<usize, NoMemory>
+fn bytes_of_joined(
+    alloc: Global,
+    update: &Update<'_>,
+    rows: &[bool],
+    limit: usize,
+) -> Result<usize, NoMemory>
     requires update { IsUpdate update.now }
     requires known { is_known update.now.memory.now ≡ true }
+    requires wide { update.now.wanted.now.picture.rows ≤ length rows.now }
+    requires rows { AreSame update.now.scene.profile.now update.now.wanted.now.picture update.now.memory.now rows.now update.now.wanted.now.picture.rows }
     requires pen { (is_there update.now.scene.profile.now Sgr0 ≡ true) ⊎ (is_plain_pen update.now.memory.now.state.pen ≡ true) }
     requires some { (is_none_left (differing update.now.scene.profile.now update.now.wanted.now.picture update.now.memory.now) && is_placed update.now.memory.now update.now.wanted.now.picture.wish) ≡ false }
     ensures { IfOk result (λ bytes. bytes ≤ counted_up (length (all_bytes update.now.scene.profile.now (joined_of update.now.scene.profile.now update.now.memory.now update.now.wanted.now.picture)))) }
 {
     let ops = Vec::with_capacity(alloc, FEW_OPERATIONS)?;
     let mut joining = Joining::on_remembered(&update.scene, update.memory, ops, false)?;
-    joining.join_changes(update, Some(limit))?;
+    joining.join_changes(update, rows, Some(limit))?;
     Ok(joining.bytes)
 }
 
 // The joined repaint.
 #[inline(never)]
-fn joined(alloc: Global, update: &Update<'_>) -> Result<Ops, NoMemory>
+fn joined(alloc: Global, update: &Update<'_>, rows: &[bool]) -> Result<Ops, NoMemory>
     requires update { IsUpdate update.now }
     requires known { is_known update.now.memory.now ≡ true }
+    requires wide { update.now.wanted.now.picture.rows ≤ length rows.now }
+    requires rows { AreSame update.now.scene.profile.now update.now.wanted.now.picture update.now.memory.now rows.now update.now.wanted.now.picture.rows }
     requires pen { (is_there update.now.scene.profile.now Sgr0 ≡ true) ⊎ (is_plain_pen update.now.memory.now.state.pen ≡ true) }
     requires some { (is_none_left (differing update.now.scene.profile.now update.now.wanted.now.picture update.now.memory.now) && is_placed update.now.memory.now update.now.wanted.now.picture.wish) ≡ false }
     ensures { IfOk result (λ ops. ops ≡ joined_of update.now.scene.profile.now update.now.memory.now update.now.wanted.now.picture) }
 {
     let ops = Vec::with_capacity(alloc, room_of(update.wanted.size()))?;
     let mut joining = Joining::on_remembered(&update.scene, update.memory, ops, true)?;
-    joining.join_changes(update, None)?;
+    joining.join_changes(update, rows, None)?;
     Ok(Ops(joining.ops))
 }
 

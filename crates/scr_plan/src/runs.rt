@@ -1,7 +1,9 @@
-//! The runs of a row: places that one visit paints with one pen. Each place that differs is in a
-//! run.
-ghost use Rattle.std.specs.Prelude.{◌≡◌, ◌<◌, ◌≤◌, IfOk, IfSome, OnOk, length, option_map};
-ghost use Rattle.scr_plan.specs.Code.Drafts.{HasDiffering, HasMarks, HasPart, KeepsRuns};
+//! The runs of a row: places that one visit paints with one pen. A row is cut into them from the
+//! left, and each place that differs is in one.
+ghost use Rattle.std.specs.Prelude.{ℕ, ◌≡◌, ◌<◌, ◌≤◌, None, IfOk, IfSome, OnOk, false, length, option_map, true};
+ghost use Rattle.scr_plan.specs.Code.Drafts.{HasDiffering, HasMarks, KeepsRuns, is_in};
+ghost use Rattle.scr_plan.specs.Code.Painters.{row_differs};
+ghost use Rattle.scr_plan.specs.Code.Runs.{CutsOff, IsCut, IsSameRow, differs_at};
 ghost use Rattle.scr_plan.specs.Code.Scenes.{IsLine};
 
 use crate::blanks::{
@@ -12,62 +14,234 @@ use crate::scenes::{Line, Scene};
 use scr_cells::{Look, NoMemory, Pen};
 use scr_prices::{How, Run};
 
+// A row that is being cut: the next run begins in `column` or behind it. Up to `stretch` the
+// columns belong to a stretch that was begun, up to `end` stretches are searched, and from there to
+// `last` the rest of the row is to be erased.
+#[derive(Clone, Copy)]
+pub(crate) struct Cut<'a> {
+    scene: Scene<'a>,
+    line: Line<'a>,
+    column: u32,
+    stretch: u32,
+    end: u32,
+    last: u32,
+}
+
+impl<'a> Cut<'a> {
+    // The cut of a row's columns from the first of two up to the second; `None` if none of them
+    // differs from what the row shows.
+    pub(crate) fn of(scene: &Scene<'a>, line: &Line<'a>, columns: (u32, u32)) -> Option<Cut<'a>>
+        requires line { IsLine scene.now.picture.now line.now }
+        requires from { columns.0 ≤ columns.1 }
+        requires end { columns.1 ≤ scene.now.picture.now.columns }
+        ensures none { result ≡ None → (c : ℕ) → columns.0 ≤ c → c < columns.1 → row_differs scene.now.painter scene.now.picture.now (option_map (λ looks. looks.now) line.now.before) (line.now.row, c) ≡ false }
+        ensures cut { IfSome result IsCut }
+        ensures scene { IfSome result (λ cut. cut.scene ≡ scene.now) }
+        ensures line { IfSome result (λ cut. cut.line ≡ line.now) }
+        ensures last { IfSome result (λ cut. cut.last ≡ columns.1) }
+        ensures begun { IfSome result (λ cut. (c : ℕ) → columns.0 ≤ c → c < cut.column → differs_at cut c ≡ false) }
+        ensures differs { IfSome result (λ cut. differs_at cut cut.column ≡ true) }
+        ensures first { IfSome result (λ cut. columns.0 ≤ cut.column) }
+        ensures some { IfSome result (λ cut. cut.column < columns.1) }
+    {
+        let (from, last) = columns;
+        let column = scene.unlike_from(line, from, last);
+        if column >= last {
+            return None;
+        }
+        let end = scene.erased_rest(line, column, last).unwrap_or(last);
+        let stretch = if column < end {
+            scene.stretch_end(line, column, end)
+        } else {
+            column
+        };
+        Some(Cut {
+            scene: *scene,
+            line: *line,
+            column,
+            stretch,
+            end,
+            last,
+        })
+    }
+
+    // Cuts off the next run, if there is one.
+    pub(crate) fn next(&mut self) -> Option<Run>
+        requires cut { IsCut self.old }
+        ensures cut { IsCut self.new }
+        ensures same { IsSameRow self.old self.new }
+        ensures none { result ≡ None → (c : ℕ) → self.old.column ≤ c → c < self.old.last → differs_at self.old c ≡ false }
+        ensures some { IfSome result (CutsOff self.old self.new) }
+    {
+        if self.column >= self.stretch && !self.find_stretch() {
+            return self.rest();
+        }
+        let (_, pen) = self.scene.seen_in(self.line.cells, self.column);
+        Some(if pen.is_plain() {
+            self.piece()
+        } else {
+            self.whole(pen)
+        })
+    }
+
+    // Goes to the next stretch, if there is one.
+    fn find_stretch(&mut self) -> bool
+        requires cut { IsCut self.old }
+        ensures cut { IsCut self.new }
+        ensures same { IsSameRow self.old self.new }
+        ensures from { self.old.column ≤ self.new.column }
+        ensures begun { result ≡ true → self.new.column < self.new.stretch }
+        ensures some { result ≡ true → (c : ℕ) → self.old.column ≤ c → c < self.new.column → differs_at self.old c ≡ false }
+        ensures none { result ≡ false → (c : ℕ) → self.old.column ≤ c → c < self.new.end → differs_at self.old c ≡ false }
+    {
+        let start = self.scene.unlike_from(&self.line, self.column, self.end);
+        if start >= self.end {
+            return false;
+        }
+        self.column = start;
+        self.stretch = self.scene.stretch_end(&self.line, start, self.end);
+        true
+    }
+
+    // Cuts off the rest of the row, if it is to be erased.
+    fn rest(&mut self) -> Option<Run>
+        requires cut { IsCut self.old }
+        ensures cut { IsCut self.new }
+        ensures same { IsSameRow self.old self.new }
+        ensures none { result ≡ None → self.old.end ≡ self.old.last }
+        ensures more { IfSome result (λ run. self.old.column < self.new.column) }
+        ensures has { IfSome result (λ run. (c : ℕ) → self.old.end ≤ c → c < self.new.column → is_in run (self.old.line.row, c) ≡ true) }
+    {
+        let columns = self.scene.picture.size().columns;
+        if self.end >= self.last {
+            return None;
+        }
+        let run = rest_from(self.line.row, self.end, columns);
+        self.column = self.last;
+        self.stretch = self.last;
+        self.end = self.last;
+        Some(run)
+    }
+
+    // Cuts off all of a stretch, which is written with a pen.
+    fn whole(&mut self, pen: Pen) -> Run
+        requires cut { IsCut self.old }
+        requires begun { self.old.column < self.old.stretch }
+        ensures cut { IsCut self.new }
+        ensures same { IsSameRow self.old self.new }
+        ensures has { CutsOff self.old self.new result }
+    {
+        let run = written(self.line.row, self.column, self.stretch, pen);
+        self.column = self.stretch;
+        run
+    }
+
+    // Cuts off the next run of a stretch with a plain pen: long blanks are erased, what is between
+    // them is written.
+    fn piece(&mut self) -> Run
+        requires cut { IsCut self.old }
+        requires begun { self.old.column < self.old.stretch }
+        ensures cut { IsCut self.new }
+        ensures same { IsSameRow self.old self.new }
+        ensures has { CutsOff self.old self.new result }
+    {
+        let Some((first, after)) = self.blanks_to_erase() else {
+            return self.whole(Pen::plain());
+        };
+        let column = self.column;
+        if column < first {
+            self.column = first;
+            return written(self.line.row, column, first, Pen::plain());
+        }
+        self.column = after;
+        erased(self.line.row, column, after)
+    }
+
+    // The first blanks of a stretch that are worth an erasure, if there are any.
+    fn blanks_to_erase(&self) -> Option<(u32, u32)>
+        requires cut { IsCut self.now }
+        requires begun { self.now.column < self.now.stretch }
+        ensures first { IfSome result (λ blanks. self.now.column ≤ blanks.0) }
+        ensures order { IfSome result (λ blanks. blanks.0 < blanks.1) }
+        ensures end { IfSome result (λ blanks. blanks.1 ≤ self.now.stretch) }
+    {
+        let (profile, cells, end) = (self.scene.profile, self.line.cells, self.stretch);
+        let many = least_worth_erasing(profile);
+        let mut column = self.column;
+        while column < end {
+            let blank = blank_of_many(cells, column, end, many);
+            if blank >= end {
+                return None;
+            }
+            let first = blanks_begin(cells, column, blank);
+            let after = blanks_end(cells, blank, end);
+            if is_worth_erasing(profile, after - first, after < end) {
+                return Some((first, after));
+            }
+            column = after.max(blank + 1);
+        }
+        None
+    }
+
+    // Adds all runs that are not cut off yet.
+    fn add_to(&self, runs: &mut Vec<Run>) -> Result<(), NoMemory>
+        requires cut { IsCut self.now }
+        ensures kept { OnOk result (KeepsRuns runs.old.items runs.new.items) }
+        ensures has { OnOk result (HasDiffering self.now.scene.painter self.now.scene.picture.now self.now.line.row (option_map (λ looks. looks.now) self.now.line.before) self.now.column self.now.last runs.new.items) }
+    {
+        let mut cut = *self;
+        while let Some(run) = cut.next() {
+            runs.push(run)?;
+        }
+        Ok(())
+    }
+}
+
+impl<'a> Scene<'a> {
+    // A row of the picture, and what it shows: `before`, or blanks.
+    pub(crate) fn line(&self, row: u32, before: Option<&'a [Look]>) -> Line<'a>
+        requires row { row < self.now.picture.now.rows }
+        requires width { IfSome before (λ looks. length looks.now ≡ self.now.picture.now.columns) }
+        ensures line { IsLine self.now.picture.now result }
+        ensures row { result.row ≡ row }
+        ensures before { result.before ≡ before.entry }
+    {
+        let _size = self.picture.size();
+        Line {
+            row,
+            cells: self.picture.row(row),
+            before,
+        }
+    }
+}
+
 impl Scene<'_> {
-    // Adds the runs of the places in columns `from..end` that differ from what the row shows:
-    // `before`, or blanks.
+    // Adds the runs of the places of a row that differ from what it shows, `before` or blanks, from
+    // the first of two columns up to the second. Returns whether there are any.
     pub(crate) fn add_row(
         &self,
         row: u32,
         before: Option<&[Look]>,
-        from: u32,
-        end: u32,
+        columns: (u32, u32),
         runs: &mut Vec<Run>,
-    ) -> Result<(), NoMemory>
+    ) -> Result<bool, NoMemory>
         requires row { row < self.now.picture.now.rows }
         requires width { IfSome before (λ looks. length looks.now ≡ self.now.picture.now.columns) }
-        requires from { from ≤ end }
-        requires end { end ≤ self.now.picture.now.columns }
-        ensures kept { OnOk result (KeepsRuns runs.old.items runs.new.items) }
-        ensures has { OnOk result (HasDiffering self.now.painter self.now.picture.now row (option_map (λ looks. looks.now) before.entry) from end runs.new.items) }
+        requires from { columns.0 ≤ columns.1 }
+        requires end { columns.1 ≤ self.now.picture.now.columns }
+        ensures kept { IfOk result (λ some. KeepsRuns runs.old.items runs.new.items) }
+        ensures has { IfOk result (λ some. HasDiffering self.now.painter self.now.picture.now row (option_map (λ looks. looks.now) before.entry) columns.0 columns.1 runs.new.items) }
+        ensures none { IfOk result (λ some. some ≡ false → (c : ℕ) → columns.0 ≤ c → c < columns.1 → row_differs self.now.painter self.now.picture.now (option_map (λ looks. looks.now) before.entry) (row, c) ≡ false) }
+        ensures one { IfOk result (λ some. some ≡ true → (c : ℕ) × (columns.0 ≤ c) × (c < columns.1) × (row_differs self.now.painter self.now.picture.now (option_map (λ looks. looks.now) before.entry) (row, c) ≡ true)) }
     {
-        let size = self.picture.size();
-        let line = &Line {
-            row,
-            cells: self.picture.row(row),
-            before,
-        };
-        let start = self.unlike_from(line, from, end);
-        if start >= end {
-            return Ok(());
-        }
-        match self.erased_rest(line, start, end) {
-            Some(column) => {
-                if start < column {
-                    self.add_from(line, start, column, runs)?;
-                }
-                add(runs, rest_from(row, column, size.columns))
+        let line = self.line(row, before);
+        match Cut::of(self, &line, columns) {
+            Some(cut) => {
+                cut.add_to(runs)?;
+                Ok(true)
             }
-            None => self.add_from(line, start, end, runs),
+            None => Ok(false),
         }
-    }
-
-    // Adds the runs of a part of a row that begins in a place that differs.
-    fn add_from(
-        &self,
-        line: &Line<'_>,
-        start: u32,
-        end: u32,
-        runs: &mut Vec<Run>,
-    ) -> Result<(), NoMemory>
-        requires line { IsLine self.now.picture.now line.now }
-        requires start { start < end }
-        requires end { end ≤ self.now.picture.now.columns }
-        ensures kept { OnOk result (KeepsRuns runs.old.items runs.new.items) }
-        ensures has { OnOk result (HasDiffering self.now.painter self.now.picture.now line.now.row (option_map (λ looks. looks.now) line.now.before) start end runs.new.items) }
-    {
-        let after = self.stretch_end(line, start, end);
-        self.add_stretch(line, start, after, runs)?;
-        self.add_part(line, after, end, runs)
     }
 
     // Adds the runs of all places in the rows from `first` on that are not seen blank.
@@ -77,55 +251,9 @@ impl Scene<'_> {
     {
         let size = self.picture.size();
         for row in first..size.rows {
-            self.add_row(row, None, 0, size.columns, runs)?;
+            let _ = self.add_row(row, None, (0, size.columns), runs)?;
         }
         Ok(())
-    }
-
-    // Adds the runs of a part of a row.
-    fn add_part(
-        &self,
-        line: &Line<'_>,
-        from: u32,
-        end: u32,
-        runs: &mut Vec<Run>,
-    ) -> Result<(), NoMemory>
-        requires line { IsLine self.now.picture.now line.now }
-        requires from { from ≤ end }
-        requires end { end ≤ self.now.picture.now.columns }
-        ensures kept { OnOk result (KeepsRuns runs.old.items runs.new.items) }
-        ensures has { OnOk result (HasDiffering self.now.painter self.now.picture.now line.now.row (option_map (λ looks. looks.now) line.now.before) from end runs.new.items) }
-    {
-        let mut column = from;
-        while column < end {
-            column = self.add_next(line, column, end, runs)?;
-        }
-        Ok(())
-    }
-
-    // Adds the runs of the first stretch from a column on, and returns where to go on.
-    fn add_next(
-        &self,
-        line: &Line<'_>,
-        column: u32,
-        end: u32,
-        runs: &mut Vec<Run>,
-    ) -> Result<u32, NoMemory>
-        requires line { IsLine self.now.picture.now line.now }
-        requires column { column < end }
-        requires end { end ≤ self.now.picture.now.columns }
-        ensures more { IfOk result (λ next. column < next) }
-        ensures end { IfOk result (λ next. next ≤ end) }
-        ensures kept { OnOk result (KeepsRuns runs.old.items runs.new.items) }
-        ensures has { IfOk result (λ next. HasDiffering self.now.painter self.now.picture.now line.now.row (option_map (λ looks. looks.now) line.now.before) column next runs.new.items) }
-    {
-        let start = self.unlike_from(line, column, end);
-        if start >= end {
-            return Ok(end);
-        }
-        let after = self.stretch_end(line, start, end);
-        self.add_stretch(line, start, after, runs)?;
-        Ok(after)
     }
 
     // Where a stretch that begins in a place that differs ends: after its last place that differs.
@@ -172,103 +300,6 @@ impl Scene<'_> {
         }
         end
     }
-
-    // Adds the runs of a stretch: one, or several if it has long blanks.
-    fn add_stretch(
-        &self,
-        line: &Line<'_>,
-        start: u32,
-        end: u32,
-        runs: &mut Vec<Run>,
-    ) -> Result<(), NoMemory>
-        requires wide { end ≤ length line.now.cells.now }
-        requires start { start < end }
-        ensures kept { OnOk result (KeepsRuns runs.old.items runs.new.items) }
-        ensures has { OnOk result (HasPart line.now.row start end runs.new.items) }
-    {
-        let (_, pen) = self.seen_in(line.cells, start);
-        if pen.is_plain() {
-            self.add_pieces(line, start, end, runs)
-        } else {
-            add(runs, written(line.row, start, end, pen))
-        }
-    }
-
-    // Adds the runs of places with a plain pen: long blanks are erased, what is between them is
-    // written.
-    fn add_pieces(
-        &self,
-        line: &Line<'_>,
-        start: u32,
-        end: u32,
-        runs: &mut Vec<Run>,
-    ) -> Result<(), NoMemory>
-        requires wide { end ≤ length line.now.cells.now }
-        requires start { start < end }
-        ensures kept { OnOk result (KeepsRuns runs.old.items runs.new.items) }
-        ensures has { OnOk result (HasPart line.now.row start end runs.new.items) }
-    {
-        let many = least_worth_erasing(self.profile);
-        let mut begun = start;
-        let mut column = start;
-        while column < end {
-            let blank = blank_of_many(line.cells, column, end, many);
-            if blank >= end {
-                return add_written(runs, line.row, begun, end);
-            }
-            let first = blanks_begin(line.cells, column, blank);
-            let after = blanks_end(line.cells, blank, end);
-            begun = self.add_piece(line, begun, first, after, end, runs)?;
-            column = after.max(blank + 1);
-        }
-        add_written(runs, line.row, begun, end)
-    }
-
-    // Adds a run of blanks if they are worth an erasure, and before it one of what precedes them.
-    // Returns the end of the runs so far.
-    fn add_piece(
-        &self,
-        line: &Line<'_>,
-        begun: u32,
-        column: u32,
-        after: u32,
-        end: u32,
-        runs: &mut Vec<Run>,
-    ) -> Result<u32, NoMemory>
-        requires begun { begun ≤ column }
-        requires column { column ≤ after }
-        ensures more { IfOk result (λ next. begun ≤ next) }
-        ensures end { IfOk result (λ next. next ≤ after) }
-        ensures kept { OnOk result (KeepsRuns runs.old.items runs.new.items) }
-        ensures has { IfOk result (λ next. HasPart line.now.row begun next runs.new.items) }
-    {
-        if !is_worth_erasing(self.profile, after - column, after < end) {
-            return Ok(begun);
-        }
-        add_written(runs, line.row, begun, column)?;
-        add(runs, erased(line.row, column, after))?;
-        Ok(after)
-    }
-}
-
-// Adds a run that is written with a plain pen, unless it is empty.
-fn add_written(runs: &mut Vec<Run>, row: u32, start: u32, end: u32) -> Result<(), NoMemory>
-    ensures kept { OnOk result (KeepsRuns runs.old.items runs.new.items) }
-    ensures has { OnOk result (HasPart row start end runs.new.items) }
-{
-    if start >= end {
-        return Ok(());
-    }
-    add(runs, written(row, start, end, Pen::plain()))
-}
-
-// Adds a run.
-fn add(runs: &mut Vec<Run>, run: Run) -> Result<(), NoMemory>
-    ensures kept { OnOk result (KeepsRuns runs.old.items runs.new.items) }
-    ensures has { OnOk result (HasPart run.row run.start run.end runs.new.items) }
-{
-    runs.push(run)?;
-    Ok(())
 }
 
 // The least room for operations. Lists of one size are taken from where the last one was given back;

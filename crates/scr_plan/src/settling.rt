@@ -1,221 +1,144 @@
-//! Settling rows one after another, once rows were shifted: characters of a row may slide, and its
-//! runs are found over what it shows then.
-ghost use Rattle.std.specs.Prelude.{ℕ, ◌≡◌, ◌+◌, ◌-◌, ◌≤◌, ◌<◌, IfSome, List, None, OnOk, Option, Some, length, true};
+//! Sliding the characters of rows one after another, where that is worth it: the runs of a row that
+//! is slid are found anew, over what it shows then.
+ghost use Rattle.std.specs.Prelude.{ℕ, ◌≡◌, ◌+◌, ◌≤◌, ◌<◌, IfOk, IfSome, List, OnOk, Option, Some, length, slice_index_or, true};
 ghost use Rattle.scr_cells.specs.LookViews.{LookView};
+ghost use Rattle.scr_plan.specs.Code.Drafts.{HasDiffering, KeepsOthers};
 ghost use Rattle.scr_plan.specs.Code.Moves.{IsShift, IsSlide};
-ghost use Rattle.scr_plan.specs.Code.Planning.{range_by};
-ghost use Rattle.scr_plan.specs.Code.Settled.{IsShownRow, Settles, ShowsBeside, op_of};
-ghost use Rattle.scr_memory.specs.Memories.{MemoryView, is_known};
-ghost use Rattle.scr_plan.specs.Repaints.{IsSizeOf, ShowsOutside};
-ghost use Rattle.scr_prices.specs.declared.shifts.Shift.{Shift};
-ghost use Rattle.scr_term.specs.Operations.Profiles.{ProfileView};
-ghost use Rattle.scr_term.specs.Operations.Texts.{has};
-ghost use Rattle.scr_virtual.specs.Ranges.{IsRange};
 ghost use Rattle.scr_plan.specs.Code.Scenes.{IsScene, IsUpdate};
+ghost use Rattle.scr_plan.specs.Code.Settled.{HasShown, HasShownIn, IsShownRow, Settles, op_of};
+ghost use Rattle.scr_memory.specs.Memories.{is_known};
+ghost use Rattle.scr_prices.specs.declared.runs.Run.{Run};
+ghost use Rattle.scr_prices.specs.declared.shifts.Shift.{Shift};
+ghost use Rattle.scr_term.specs.Operations.Texts.{has};
 
-use crate::looked::Looked;
 use crate::scenes::{Scene, Update};
-use crate::shown::{is_moved, shown_row, slide_into};
+use crate::shown::{shown_row, slide_into};
 use crate::sliding::slide_of;
 use crate::strokes::Draft;
-use crate::wiping::drop_from;
 use scr_cells::{Look, NoMemory};
-use scr_prices::{Run, Shift, Slide};
-use scr_virtual::Virtual;
+use scr_prices::{RowRuns, Run, Shift, Slide, can_slide_some, runs_end};
+use std::alloc::Global;
+
+// Room for what slides put together: a row of looks, and the runs of later rows.
+#[derive(Drop)]
+pub(crate) struct Room {
+    looks: Vec<Look>,
+    later: Vec<Run>,
+}
+
+// The runs of a row, from the first of two numbers up to the second.
+#[derive(Clone, Copy)]
+pub(crate) struct Part {
+    row: u32,
+    begun: usize,
+    after: usize,
+}
 
 impl Draft {
-    // Settles a row that shows `looks` by a slide of its characters.
-    #[inline(never)]
-    fn settle_slid(
+    // Slides the characters of each row where that is worth it. After a shift, if there was one,
+    // the rows show the picture except in their runs.
+    pub(crate) fn slide_rows(
         &mut self,
-        scene: &Scene<'_>,
-        row: u32,
-        looks: &[Look],
-        slide: Slide,
-        runs: &mut Vec<Run>,
-        room: &mut Vec<Look>,
-    ) -> Result<(), NoMemory>
-        requires scene { IsScene scene.now }
-        requires row { row < scene.now.picture.now.rows }
-        requires width { length looks.now ≡ scene.now.picture.now.columns }
-        requires slide { IsSlide scene.now.picture.now.columns slide }
-        requires has { has scene.now.profile.now (op_of slide) ≡ true }
-        ensures { OnOk result ((shift : Option Shift) (grid : List (List LookView)) → IsShownRow scene.now.picture.now.columns shift grid row (Some looks.now)
-            → Settles scene.now.profile.now scene.now.picture.now shift grid row (row + 1) runs.old.items runs.new.items self.old self.new) }
-    {
-        let size = scene.picture.size();
-        self.slide(scene, row, slide)?;
-        slide_into(room, looks, slide)?;
-        scene.add_row(row, Some(room), 0, size.columns, runs)
-    }
-
-    // Settles a row that shows `looks`, and the picture except from the first of two columns up to
-    // the second: finds its runs, and slides its characters if that is worth it.
-    fn settle_over(
-        &mut self,
-        scene: &Scene<'_>,
-        row: u32,
-        looks: &[Look],
-        columns: (u32, u32),
-        runs: &mut Vec<Run>,
-        room: &mut Vec<Look>,
-    ) -> Result<(), NoMemory>
-        requires scene { IsScene scene.now }
-        requires row { row < scene.now.picture.now.rows }
-        requires width { length looks.now ≡ scene.now.picture.now.columns }
-        requires from { columns.0 < columns.1 }
-        requires end { columns.1 ≤ scene.now.picture.now.columns }
-        ensures { OnOk result ((shift : Option Shift) (grid : List (List LookView)) → IsShownRow scene.now.picture.now.columns shift grid row (Some looks.now) → ShowsBeside scene.now.profile.now scene.now.picture.now shift grid row (Some (columns.0, columns.1 - 1))
-            → Settles scene.now.profile.now scene.now.picture.now shift grid row (row + 1) runs.old.items runs.new.items self.old self.new) }
-    {
-        let _size = scene.picture.size();
-        let begun = runs.len();
-        scene.add_row(row, Some(looks), columns.0, columns.1, runs)?;
-        let cursor = self.cursor();
-        let found = runs_after(runs, begun);
-        match slide_of(scene, &cursor, row, looks, found, room)? {
-            Some(slide) => {
-                drop_from(runs, row);
-                self.settle_slid(scene, row, looks, slide, runs, room)
-            }
-            None => Ok(()),
-        }
-    }
-
-    // Settles a row.
-    fn settle_row(
-        &mut self,
+        alloc: Global,
         update: &Update<'_>,
         shift: Option<Shift>,
-        row: u32,
         runs: &mut Vec<Run>,
-        room: &mut Vec<Look>,
-    ) -> Result<(), NoMemory>
-        requires update { IsUpdate update.now }
-        requires known { is_known update.now.memory.now ≡ true }
-        requires shift { IfSome shift (IsShift update.now.wanted.now.picture.rows) }
-        requires row { row < update.now.wanted.now.picture.rows }
-        ensures { OnOk result (Settles update.now.scene.profile.now update.now.wanted.now.picture shift update.now.memory.now.state.grid row (row + 1) runs.old.items runs.new.items self.old self.new) }
-    {
-        let _size = update.wanted.size();
-        match columns_to_look(update.wanted, update.by, shift, row) {
-            Some((from, last)) => {
-                self.settle_part(update, shift, row, (from, last + 1), runs, room)
-            }
-            None => Ok(()),
-        }
-    }
-
-    // Settles a row that shows the picture after a shift, except from the first of two columns up
-    // to the second.
-    fn settle_part(
-        &mut self,
-        update: &Update<'_>,
-        shift: Option<Shift>,
-        row: u32,
-        columns: (u32, u32),
-        runs: &mut Vec<Run>,
-        room: &mut Vec<Look>,
     ) -> Result<(), NoMemory>
         requires update { IsUpdate update.now }
         requires shift { IfSome shift (IsShift update.now.scene.picture.now.rows) }
-        requires row { row < update.now.scene.picture.now.rows }
-        requires from { columns.0 < columns.1 }
-        requires end { columns.1 ≤ update.now.scene.picture.now.columns }
-        requires beside { ShowsBeside update.now.scene.profile.now update.now.scene.picture.now shift update.now.memory.now.state.grid row (Some (columns.0, columns.1 - 1)) }
-        ensures { OnOk result (Settles update.now.scene.profile.now update.now.scene.picture.now shift update.now.memory.now.state.grid row (row + 1) runs.old.items runs.new.items self.old self.new) }
+        requires shown { HasShown update.now.scene.profile.now update.now.scene.picture.now shift update.now.memory.now.state.grid 0 runs.old.items }
+        ensures { OnOk result (Settles update.now.scene.profile.now update.now.scene.picture.now shift update.now.memory.now.state.grid 0 update.now.scene.picture.now.rows runs.old.items runs.new.items self.old self.new) }
     {
-        let scene = &update.scene;
-        let _size = scene.picture.size();
-        match shown_row(update.memory, shift, row) {
-            Some(looks) => self.settle_over(scene, row, looks, columns, runs, room),
-            None => scene.add_row(row, None, columns.0, columns.1, runs),
-        }
-    }
-
-    // Settles the rows from one on.
-    pub(crate) fn settle_from(
-        &mut self,
-        update: &Update<'_>,
-        shift: Option<Shift>,
-        from: u32,
-        runs: &mut Vec<Run>,
-        room: &mut Vec<Look>,
-    ) -> Result<(), NoMemory>
-        requires update { IsUpdate update.now }
-        requires known { is_known update.now.memory.now ≡ true }
-        requires shift { IfSome shift (IsShift update.now.wanted.now.picture.rows) }
-        ensures { OnOk result (Settles update.now.scene.profile.now update.now.wanted.now.picture shift update.now.memory.now.state.grid from update.now.wanted.now.picture.rows runs.old.items runs.new.items self.old self.new) }
-    {
-        let _size = update.wanted.size();
-        let (_, end) = update.by.rows(update.wanted);
-        let end = later(end, end_of_moved(shift));
-        if from >= end {
+        if !can_slide_some(update.scene.profile.prices()) {
             return Ok(());
         }
-        for row in from..end {
-            self.settle_row(update, shift, row, runs, room)?;
+        let size = update.scene.picture.size();
+        let mut room = Room {
+            looks: Vec::new(alloc),
+            later: Vec::new(alloc),
+        };
+        let mut from = 0;
+        let mut begun = 0;
+        while begun < runs.len() {
+            let row = runs[begun].row;
+            if row < from || row >= size.rows {
+                return Ok(());
+            }
+            let after = runs_end(runs, begun, row);
+            let part = Part { row, begun, after };
+            begun = self.slide_row(update, shift, &part, runs, &mut room)?;
+            from = row + 1;
         }
         Ok(())
     }
-}
 
-// The runs from one with this number on.
-fn runs_after(runs: &[Run], begun: usize) -> &[Run] {
-    if begun <= runs.len() {
-        &runs[begun..]
-    } else {
-        &[]
+    // Slides the characters of a row if that is worth it. Returns where the runs of the next row
+    // begin.
+    fn slide_row(
+        &mut self,
+        update: &Update<'_>,
+        shift: Option<Shift>,
+        part: &Part,
+        runs: &mut Vec<Run>,
+        room: &mut Room,
+    ) -> Result<usize, NoMemory>
+        requires update { IsUpdate update.now }
+        requires shift { IfSome shift (IsShift update.now.scene.picture.now.rows) }
+        requires row { part.now.row < update.now.scene.picture.now.rows }
+        requires begun { part.now.begun ≤ part.now.after }
+        requires after { part.now.after ≤ length runs.old.items }
+        requires own { (k : ℕ) (other : Run) → part.now.begun ≤ k → k < part.now.after → (slice_index_or runs.old.items k other).row ≡ part.now.row }
+        requires shown { HasShownIn update.now.scene.profile.now update.now.scene.picture.now shift update.now.memory.now.state.grid runs.old.items part.now.row }
+        ensures end { IfOk result (λ next. next ≤ length runs.new.items) }
+        ensures others { IfOk result (λ next. KeepsOthers part.now.row runs.old.items runs.new.items) }
+        ensures settles { IfOk result (λ next. Settles update.now.scene.profile.now update.now.scene.picture.now shift update.now.memory.now.state.grid part.now.row (part.now.row + 1) runs.old.items runs.new.items self.old self.new) }
+    {
+        let scene = &update.scene;
+        let _size = scene.picture.size();
+        let Some(looks) = shown_row(update.memory, shift, part.row) else {
+            return Ok(part.after);
+        };
+        let shown = RowRuns {
+            row: part.row,
+            looks,
+            runs: &runs[part.begun..part.after],
+        };
+        match slide_of(update, &self.cursor(), &shown, &mut room.looks)? {
+            Some(slide) => {
+                self.slide(scene, part.row, slide)?;
+                slide_into(&mut room.looks, looks, slide)?;
+                scene.find_again(part, runs, room)
+            }
+            None => Ok(part.after),
+        }
     }
 }
 
-// The first row that can differ from what is shown after a shift.
-pub(crate) fn first_to_look(wanted: &Virtual, by: Looked, shift: Option<Shift>) -> u32
-    ensures moved { IfSome shift (λ shift. result ≤ shift.top) }
-    ensures others { (r : ℕ) → r < result → r < wanted.now.picture.rows → range_by by wanted.now r ≡ None }
-{
-    let (first, _) = by.rows(wanted);
-    match shift {
-        Some(shift) => first.min(shift.top),
-        None => first,
-    }
-}
-
-// The later of two rows.
-fn later(one: u32, other: u32) -> u32
-    ensures one { one ≤ result }
-    ensures other { other ≤ result }
-    ensures inside { (rows : ℕ) → one ≤ rows → other ≤ rows → result ≤ rows }
-{
-    one.max(other)
-}
-
-// The end of the rows that a shift changes; 0 if there is no shift.
-fn end_of_moved(shift: Option<Shift>) -> u32
-    ensures value { IfSome shift (λ shift. result ≡ shift.end) }
-    ensures inside { (rows : ℕ) → IfSome shift (IsShift rows) → result ≤ rows }
-{
-    match shift {
-        Some(shift) => shift.end,
-        None => 0,
-    }
-}
-
-// The first and the last column of a row that can differ from what is shown after a shift.
-fn columns_to_look(
-    wanted: &Virtual,
-    by: Looked,
-    shift: Option<Shift>,
-    row: u32,
-) -> Option<(u32, u32)>
-    requires { row < wanted.now.picture.rows }
-    ensures inside { IfSome result (IsRange wanted.now.picture.columns) }
-    ensures beside { (profile : ProfileView) (memory : MemoryView) → ShowsOutside (range_by by) profile memory wanted.now → IsSizeOf wanted.now.picture memory → is_known memory ≡ true → ShowsBeside profile wanted.now.picture shift memory.state.grid row result }
-{
-    let size = wanted.size();
-    if is_moved(shift, row) {
-        Some((0, size.columns - 1))
-    } else {
-        by.in_row(wanted, row)
+impl Scene<'_> {
+    // Finds the runs of a row again, over the looks that were put together; those of later rows come
+    // after them. Returns where these begin.
+    fn find_again(
+        &self,
+        part: &Part,
+        runs: &mut Vec<Run>,
+        room: &mut Room,
+    ) -> Result<usize, NoMemory>
+        requires row { part.now.row < self.now.picture.now.rows }
+        requires width { length room.old.looks.items ≡ self.now.picture.now.columns }
+        requires begun { part.now.begun ≤ part.now.after }
+        requires after { part.now.after ≤ length runs.old.items }
+        requires own { (k : ℕ) (other : Run) → part.now.begun ≤ k → k < part.now.after → (slice_index_or runs.old.items k other).row ≡ part.now.row }
+        ensures end { IfOk result (λ next. next ≤ length runs.new.items) }
+        ensures others { IfOk result (λ next. KeepsOthers part.now.row runs.old.items runs.new.items) }
+        ensures has { IfOk result (λ next. HasDiffering self.now.painter self.now.picture.now part.now.row (Some room.old.looks.items) 0 self.now.picture.now.columns runs.new.items) }
+    {
+        let size = self.picture.size();
+        room.later.clear();
+        room.later.extend_from_slice(&runs[part.after..])?;
+        runs.truncate(part.begun);
+        let _ = self.add_row(part.row, Some(&room.looks), (0, size.columns), runs)?;
+        let next = runs.len();
+        runs.extend_from_slice(&room.later)?;
+        Ok(next)
     }
 }

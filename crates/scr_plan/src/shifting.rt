@@ -10,11 +10,11 @@ ghost use Rattle.scr_term.specs.declared.operations.operation.Spot.TheVariants.{
 ghost use Rattle.scr_term.specs.Operations.Texts.{has};
 ghost use Rattle.scr_plan.specs.Code.Scenes.{IsScene, IsUpdate};
 
-use crate::priced_rows::{PricedRows, RememberedRows};
+use crate::priced_rows::PricedRows;
 use crate::scenes::{Scene, Update};
 use crate::strokes::Draft;
 use scr_cells::{Look, NoMemory, grid_laws};
-use scr_prices::{Cursor, Shift, can_shift_some, cheapest_motion, cheapest_shift};
+use scr_prices::{Cursor, Run, Shift, can_shift_some, cheapest_motion, cheapest_shift};
 use scr_term::{Op, Spot, run_laws};
 use std::alloc::Global;
 
@@ -132,19 +132,20 @@ impl Draft {
         }
     }
 
-    // Shifts rows, if that is worth it.
+    // Shifts rows, if that is worth it. The runs are all that differs.
     pub(crate) fn shift_if_worth(
         &mut self,
         alloc: Global,
         update: &Update<'_>,
+        runs: &[Run],
     ) -> Result<Option<Shift>, NoMemory>
         requires update { IsUpdate update.now }
-        ensures shift { IfOk result (λ shift. IfSome shift (IsShift update.now.wanted.now.picture.rows)) }
+        ensures shift { IfOk result (λ shift. IfSome shift (IsShift update.now.scene.picture.now.rows)) }
         ensures sent { IfOk result (λ shift. Sends update.now.scene.profile.now (shown_at shift) self.old self.new) }
     {
         grid_laws::<Look>();
         let cursor = self.cursor();
-        let Some(shift) = shift_of(alloc, update, &cursor)? else {
+        let Some(shift) = shift_of(alloc, update, &cursor, runs)? else {
             return Ok(None);
         };
         let (deletion, insertion) = (Op::DeleteLines(shift.count), Op::InsertLines(shift.count));
@@ -157,16 +158,20 @@ impl Draft {
 }
 
 // The shift that is worth sending, if the terminal can shift rows.
-fn shift_of(alloc: Global, update: &Update<'_>, cursor: &Cursor) -> Result<Option<Shift>, NoMemory>
-    ensures { IfOk result (λ shift. IfSome shift (IsShift update.now.memory.now.rows)) }
+fn shift_of(
+    alloc: Global,
+    update: &Update<'_>,
+    cursor: &Cursor,
+    runs: &[Run],
+) -> Result<Option<Shift>, NoMemory>
+    ensures { IfOk result (λ shift. IfSome shift (IsShift update.now.scene.picture.now.rows)) }
 {
     if !can_shift_some(update.scene.profile.prices()) {
         return Ok(None);
     }
-    let prices = PricedRows::new(&update.scene);
-    let rows = RememberedRows::new(update);
-    let shift = cheapest_shift(alloc, &prices, &rows, cursor)?;
-    Ok(if_inside(shift, update.memory.size().rows))
+    let prices = PricedRows::new(&update.scene, update.memory);
+    let shift = cheapest_shift(alloc, &prices, cursor, runs)?;
+    Ok(if_inside(shift, update.scene.picture.size().rows))
 }
 
 // A shift, if it is one on a screen of this many rows.

@@ -1,14 +1,14 @@
 //! The short plan: what differs is found as runs, many lines may be erased at once, and the runs
 //! are painted.
-ghost use Rattle.std.specs.Prelude.{◌≡◌, ◌<◌, ◌≤◌, ◌+◌, ◌*◌, ◌^◌, ◌-◌, ◌++◌, ◌∷◌, [], IfOk, OnOk, length, true};
+ghost use Rattle.std.specs.Prelude.{◌≡◌, ◌<◌, ◌≤◌, ◌+◌, ◌*◌, ◌^◌, ◌-◌, ◌++◌, ◌∷◌, [], IfOk, None, OnOk, length, true};
 ghost use Rattle.scr_term.specs.declared.operations.operation.Op.TheVariants.{Clear};
 ghost use Rattle.scr_term.specs.Operations.Profiles.{abilities};
 ghost use Rattle.scr_term.specs.Operations.States.{IsShownPen, blank_state};
-ghost use Rattle.scr_plan.specs.Code.Drafts.{HasChangesIn, IsDone, KeepsRuns};
+ghost use Rattle.scr_plan.specs.Code.Drafts.{IsDone};
 ghost use Rattle.scr_plan.specs.Code.Moves.{IsChanged};
-ghost use Rattle.scr_memory.specs.Memories.{is_known, is_known_row};
 ghost use Rattle.scr_plan.specs.Scratch.{resets};
 ghost use Rattle.scr_plan.specs.Code.Scenes.{IsScene, IsUpdate};
+ghost use Rattle.scr_plan.specs.Code.Settled.{HasShown};
 
 use crate::runs::room_for;
 use crate::scenes::{Scene, Update};
@@ -18,21 +18,22 @@ use scr_prices::Run;
 use scr_term::{Op, Spot, blank_laws};
 use std::alloc::Global;
 
-// Room for the runs that most updates have, so that the list does not grow.
-const FEW_RUNS: usize = 16;
-
-// The short plan of what differs from what is remembered.
+// The short plan of what differs from what is remembered: these runs.
 #[inline(never)]
-pub(crate) fn short_changes(alloc: Global, update: &Update<'_>) -> Result<Draft, NoMemory>
+pub(crate) fn short_changes(
+    alloc: Global,
+    update: &Update<'_>,
+    runs: Vec<Run>,
+) -> Result<Draft, NoMemory>
     requires update { IsUpdate update.now }
-    requires known { is_known update.now.memory.now ≡ true }
+    requires shown { HasShown update.now.scene.profile.now update.now.wanted.now.picture None update.now.memory.now.state.grid 0 runs.items }
     requires pen { IsShownPen (abilities update.now.scene.profile.now) update.now.memory.now.state.pen }
     ensures { IfOk result (IsChanged update.now.scene.profile.now update.now.wanted.now.picture update.now.memory.now.state) }
 {
     let _profile = update.scene.profile.size();
     let _memory = update.memory.size();
-    let mut runs = Vec::with_capacity(alloc, FEW_RUNS)?;
     let scene = &update.scene;
+    let mut runs = runs;
     let mut draft = Draft {
         ops: Vec::new(alloc),
         bytes: 0,
@@ -67,28 +68,6 @@ pub(crate) fn short_anew(alloc: Global, scene: &Scene<'_>) -> Result<Draft, NoMe
     };
     draft.paint_all(alloc, scene, &mut runs, false)?;
     Ok(draft)
-}
-
-// Finds the runs of a row's places that differ from what is known of them.
-pub(crate) fn find_in_row(
-    update: &Update<'_>,
-    row: u32,
-    runs: &mut Vec<Run>,
-) -> Result<(), NoMemory>
-    requires update { IsUpdate update.now }
-    requires row { row < update.now.wanted.now.picture.rows }
-    requires known { is_known_row update.now.memory.now row ≡ true }
-    ensures kept { OnOk result (KeepsRuns runs.old.items runs.new.items) }
-    ensures has { OnOk result (HasChangesIn update.now.scene.profile.now update.now.wanted.now.picture update.now.memory.now runs.new.items row) }
-{
-    let _size = update.wanted.size();
-    match update.by.in_row(update.wanted, row) {
-        Some((from, last)) => {
-            let looks = Some(update.memory.looks(row));
-            update.scene.add_row(row, looks, from, last + 1, runs)
-        }
-        None => Ok(()),
-    }
 }
 
 impl Draft {

@@ -7,12 +7,10 @@ ghost use Rattle.scr_term.specs.Operations.Texts.{has};
 ghost use Rattle.scr_plan.specs.Code.Scenes.{IsScene};
 
 use crate::priced_rows::{PricedRows, is_inside};
-use crate::scenes::Scene;
+use crate::scenes::{Scene, Update};
 use crate::strokes::Draft;
 use scr_cells::{Look, NoMemory, grid_laws};
-use scr_prices::{
-    Cursor, DifferingRow, RowPrices, Run, Slide, are_wide, can_slide_some, cheapest_slide,
-};
+use scr_prices::{Cursor, RowRuns, Slide, are_wide, cheapest_slide};
 use scr_term::{Op, Profile, run_laws};
 
 impl Draft {
@@ -81,26 +79,22 @@ impl Draft {
     }
 }
 
-// The slide of a row that is worth sending, if there is one. The row shows `looks`; `runs` are all
-// of its runs over them.
+// The slide of a row that is worth sending, if there is one.
 pub(crate) fn slide_of(
-    scene: &Scene<'_>,
+    update: &Update<'_>,
     cursor: &Cursor,
-    row: u32,
-    looks: &[Look],
-    runs: &[Run],
+    shown: &RowRuns<'_>,
     room: &mut Vec<Look>,
 ) -> Result<Option<Slide>, NoMemory>
-    ensures slide { IfOk result (λ slide. IfSome slide (IsSlide (length looks.now))) }
-    ensures has { IfOk result (λ slide. IfSome slide (λ slide. has scene.now.profile.now (op_of slide) ≡ true)) }
+    ensures slide { IfOk result (λ slide. IfSome slide (IsSlide (length shown.now.looks.now))) }
+    ensures has { IfOk result (λ slide. IfSome slide (λ slide. has update.now.scene.profile.now (op_of slide) ≡ true)) }
 {
-    if !are_wide(looks, runs) || !can_slide_some(scene.profile.prices()) {
+    if !are_wide(shown) {
         return Ok(None);
     }
-    let prices = PricedRows::new(scene);
-    let part = DifferingRow::of(prices.chooser(), runs);
-    let slide = cheapest_slide(&prices, cursor, row, looks, part, room)?;
-    Ok(if_there(scene.profile, looks, slide))
+    let prices = PricedRows::new(&update.scene, update.memory);
+    let slide = cheapest_slide(&prices, cursor, shown, room)?;
+    Ok(if_there(update.scene.profile, shown.looks, slide))
 }
 
 // A slide, if it is one of a row of looks and the terminal has its operation.

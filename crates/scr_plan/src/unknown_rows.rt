@@ -11,7 +11,6 @@ ghost use Rattle.scr_plan.specs.Code.Scenes.{IsScene, IsUpdate};
 use crate::joining::price_of;
 use crate::planning::room_of;
 use crate::scenes::{Scene, Update};
-use crate::short_plan::find_in_row;
 use crate::strokes::Draft;
 use scr_cells::{Look, NoMemory, Pen, grid_laws};
 use scr_memory::{Memory, memory_runs};
@@ -238,9 +237,10 @@ fn find_unsettled_in(update: &Update<'_>, row: u32, runs: &mut Vec<Run>) -> Resu
 {
     let size = update.wanted.size();
     let _memory = update.memory.size();
-    if update.memory.is_known_row(row) {
-        find_in_row(update, row, runs)
+    let _ = if update.memory.is_known_row(row) {
+        update.find_in_row(row, runs)?
     } else {
-        update.scene.add_row(row, None, 0, size.columns, runs)
-    }
+        update.scene.add_row(row, None, (0, size.columns), runs)?
+    };
+    Ok(())
 }

@@ -1,76 +1,71 @@
-//! What the search for rows, and for characters of a row, that moved asks of a screen.
+//! What the search for rows, and for characters of a row, that moved asks of a screen; and the runs of a row.
+ghost use Rattle.std.specs.Prelude.{ℕ, ◌≡◌, ◌<◌, ◌≤◌, length, slice_index_or};
+ghost use Rattle.scr_prices.specs.declared.runs.Run.{Run};
 
+use crate::runs::Run;
 use crate::slides::Slide;
 use crate::ways::Chooser;
-use scr_cells::{Cell, Look, NoMemory};
+use scr_cells::{Look, NoMemory};
 
-/// What it costs to make a row show what is wanted, over whatever it shows. Rows and columns count
-/// from 0.
+/// What the rows of a screen show, and what it costs to make a row show what is wanted over
+/// whatever it shows. Rows and columns count from 0.
 pub trait RowPrices {
     /// The chooser for the profile and the picture.
     fn chooser(&self) -> &Chooser<'_>;
 
+    /// What a row is known to show; nothing if there is no such row.
+    fn looks(&self, row: u32) -> &[Look];
+
     /// Whether a row of looks is just what is wanted in a row.
     fn is_shown(&self, row: u32, looks: &[Look]) -> bool;
 
-    /// Whether a look is what is seen of a cell.
-    fn is_seen(&self, look: Look, cell: Cell) -> bool;
+    /// The price of a row over a row of looks: that of its runs as they stand, plus an easy motion
+    /// for each.
+    fn price_over(&self, row: u32, looks: &[Look]) -> u32;
 
-    /// The first of columns `from..end` in which a row of looks is not what is wanted in a row, if
-    /// there is one.
-    fn first_unlike(&self, row: u32, looks: &[Look], from: u32, end: u32) -> Option<u32>;
-
-    /// The price of columns `from..end` of a row over a row of looks.
-    fn part_over(&self, row: u32, looks: &[Look], from: u32, end: u32) -> u32;
-
-    /// Puts together what a row of looks becomes by a slide of its characters. Fails only when
-    /// memory runs out.
-    fn slide_into(
+    /// The same over what a row of looks becomes by a slide of its characters, which is put
+    /// together in `room`. Fails only when memory runs out.
+    fn price_slid(
         &self,
-        slid: &mut Vec<Look>,
+        row: u32,
         looks: &[Look],
         slide: Slide,
-    ) -> Result<(), NoMemory>;
+        room: &mut Vec<Look>,
+    ) -> Result<u32, NoMemory>;
 }
 
-/// The rows that a terminal is known to show, and where they may differ from what is wanted.
-pub trait KnownRows {
-    /// How many rows there are.
-    fn count(&self) -> u32;
-
-    /// What a row shows; nothing if there is no such row.
-    fn looks(&self, row: u32) -> &[Look];
-
-    /// The first row that may differ, and the end of the rows that may.
-    fn differing(&self) -> (u32, u32);
-
-    /// The first and the last column in which a row may differ; `None` if it does not.
-    fn differing_in(&self, row: u32) -> Option<(u32, u32)>;
+/// A row, what it shows, and all of its runs over that.
+#[derive(Clone, Copy)]
+pub struct RowRuns<'a> {
+    /// The row.
+    pub row: u32,
+    /// What it shows.
+    pub looks: &'a [Look],
+    /// Its runs, from the left.
+    pub runs: &'a [Run],
 }
 
-// The price of a row over a row of looks.
-pub(crate) fn price_over<P: RowPrices>(prices: &P, row: u32, looks: &[Look]) -> u32 {
-    let columns = prices.chooser().picture.size().columns;
-    prices.part_over(row, looks, 0, columns)
-}
-
-// The first column in which a row differs from what it shows, if there is one.
-#[inline(always)]
-pub(crate) fn first_differing<P: RowPrices, R: KnownRows>(
-    prices: &P,
-    rows: &R,
-    row: u32,
-) -> Option<u32> {
-    let (from, last) = rows.differing_in(row)?;
-    prices.first_unlike(row, rows.looks(row), from, last.saturating_add(1))
-}
-
-// The price of a row over what it shows.
-pub(crate) fn price_over_known<P: RowPrices, R: KnownRows>(prices: &P, rows: &R, row: u32) -> u32 {
-    match rows.differing_in(row) {
-        Some((from, last)) => {
-            prices.part_over(row, rows.looks(row), from, last.saturating_add(1))
-        }
-        None => 0,
+// The price of runs as they stand, plus an easy motion for each.
+pub(crate) fn price_of_runs(chooser: &Chooser<'_>, runs: &[Run]) -> u32 {
+    let mut price = 0u32;
+    for run in runs {
+        price = price.saturating_add(chooser.price_as_it_stands(run));
     }
+    price
+}
+
+/// The number of the first run from one with a number on that is in another row than this one; the
+/// number of all runs if there is none.
+pub fn runs_end(runs: &[Run], from: usize, row: u32) -> usize
+    requires { from ≤ length runs.now }
+    ensures from { from ≤ result }
+    ensures end { result ≤ length runs.now }
+    ensures row { (k : ℕ) (other : Run) → from ≤ k → k < result → (slice_index_or runs.now k other).row ≡ row }
+{
+    for number in from..runs.len() {
+        if runs[number].row != row {
+            return number;
+        }
+    }
+    runs.len()
 }

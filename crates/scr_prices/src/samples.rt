@@ -2,7 +2,9 @@
 //! known. A choice affects nothing but the number of bytes of an update.
 
 use crate::blanks::is_blank;
-use crate::rows::{KnownRows, RowPrices, first_differing, price_over_known};
+use crate::rows::RowPrices;
+use crate::runs::Run;
+use crate::ways::Chooser;
 use scr_cells::{Cell, Look, NoMemory};
 use scr_term::{FAR, Op, Prices};
 use std::alloc::Global;
@@ -39,32 +41,31 @@ pub(crate) struct Samples {
 }
 
 impl Samples {
-    // The rows that differ from what they show.
-    pub(crate) fn of<P: RowPrices, R: KnownRows>(
+    // The rows that have these runs, which are by rows.
+    pub(crate) fn of(
         alloc: Global,
-        prices: &P,
-        rows: &R,
+        chooser: &Chooser<'_>,
+        runs: &[Run],
     ) -> Result<Samples, NoMemory> {
-        let (begin, end) = rows.differing();
-        let found = Vec::with_capacity(alloc, end.saturating_sub(begin) as usize)?;
         let mut samples = Samples {
-            found,
-            first: end,
-            last: begin,
+            found: Vec::new(alloc),
+            first: FAR,
+            last: 0,
         };
-        for row in begin..end {
-            if let Some(column) = first_differing(prices, rows, row) {
-                samples.first = samples.first.min(row);
-                samples.last = row;
-                samples.add(prices, row, column)?;
+        let mut row = None;
+        for run in runs {
+            if row != Some(run.row) {
+                row = Some(run.row);
+                samples.first = samples.first.min(run.row);
+                samples.last = run.row;
+                samples.add(chooser, run.row, run.start)?;
             }
         }
         Ok(samples)
     }
 
     // Adds a row that differs from a column on, unless it is wanted blank.
-    fn add<P: RowPrices>(&mut self, prices: &P, row: u32, column: u32) -> Result<(), NoMemory> {
-        let chooser = prices.chooser();
+    fn add(&mut self, chooser: &Chooser<'_>, row: u32, column: u32) -> Result<(), NoMemory> {
         let cells = chooser.cells(row);
         if is_blank(chooser, cells) {
             return Ok(());
@@ -99,20 +100,14 @@ impl Samples {
 
     // How many of these rows show, so many rows further down or up, what is wanted in them; or any
     // smaller number if these are no more than `least`.
-    fn votes<P: RowPrices, R: KnownRows>(
-        &self,
-        prices: &P,
-        rows: &R,
-        distance: Distance,
-        least: u32,
-    ) -> u32 {
+    fn votes<P: RowPrices>(&self, prices: &P, distance: Distance, least: u32) -> u32 {
         let count = self.count();
         let mut votes = 0u32;
         for number in 0..count {
             if votes.saturating_add(count - number) <= least {
                 return votes;
             }
-            if self.is_vote(prices, rows, distance, number) {
+            if self.is_vote(prices, distance, number) {
                 votes = votes.saturating_add(1);
             }
         }
@@ -121,19 +116,13 @@ impl Samples {
 
     // Whether the row at this distance shows what is wanted in a row.
     #[inline(always)]
-    fn is_vote<P: RowPrices, R: KnownRows>(
-        &self,
-        prices: &P,
-        rows: &R,
-        distance: Distance,
-        number: u32,
-    ) -> bool {
+    fn is_vote<P: RowPrices>(&self, prices: &P, distance: Distance, number: u32) -> bool {
         let Some(sample) = self.sample(number) else {
             return false;
         };
         match distance.source(sample.row) {
             Some(source) if self.first <= source && source <= self.last => {
-                is_alike(prices, rows.looks(source), &sample)
+                is_alike(prices, prices.looks(source), &sample)
             }
             _ => false,
         }
@@ -160,20 +149,18 @@ fn byte_at(cells: &[Cell], column: u32) -> u8 {
     }
 }
 
-// Whether at least two rows differ, and they cost enough.
-pub(crate) fn are_worth_looking<P: RowPrices, R: KnownRows>(prices: &P, rows: &R) -> bool {
-    let (begin, end) = rows.differing();
-    let mut count = 0u32;
+// Whether at least two rows have runs, and these cost enough.
+pub(crate) fn are_worth_looking(chooser: &Chooser<'_>, runs: &[Run]) -> bool {
+    let Some(first) = runs.first() else {
+        return false;
+    };
+    let mut several = false;
     let mut price = 0u32;
-    for row in begin..end {
-        if first_differing(prices, rows, row).is_some() {
-            count = count.saturating_add(1);
-            if price < WORTH_LOOKING {
-                price = price.saturating_add(price_over_known(prices, rows, row));
-            }
-            if count >= 2 && price >= WORTH_LOOKING {
-                return true;
-            }
+    for run in runs {
+        several = several || run.row != first.row;
+        price = price.saturating_add(chooser.price_as_it_stands(run));
+        if several && price >= WORTH_LOOKING {
+            return true;
         }
     }
     false
@@ -190,11 +177,7 @@ fn is_alike<P: RowPrices>(prices: &P, looks: &[Look], sample: &Sample) -> bool {
 
 // By how many rows most of the samples moved, if any did: on a tie the fewest rows, and then
 // down. The terminal can insert and delete as many lines.
-pub(crate) fn most_votes<P: RowPrices, R: KnownRows>(
-    prices: &P,
-    rows: &R,
-    samples: &Samples,
-) -> Option<Distance> {
+pub(crate) fn most_votes<P: RowPrices>(prices: &P, samples: &Samples) -> Option<Distance> {
     let chooser = prices.chooser();
     let count = samples.count();
     let mut best = None;
@@ -210,7 +193,7 @@ pub(crate) fn most_votes<P: RowPrices, R: KnownRows>(
                     count: distance,
                     up,
                 };
-                let votes = samples.votes(prices, rows, distance, most);
+                let votes = samples.votes(prices, distance, most);
                 if votes > most {
                     most = votes;
                     best = Some(distance);

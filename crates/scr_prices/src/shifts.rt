@@ -4,7 +4,8 @@
 use crate::blanks::is_blank;
 use crate::counts::Counts;
 use crate::motions::cheapest_motion;
-use crate::rows::{KnownRows, RowPrices, price_over, price_over_known};
+use crate::rows::{RowPrices, price_of_runs, runs_end};
+use crate::runs::Run;
 use crate::samples::{Distance, Samples, are_worth_looking, can_shift, most_votes};
 use crate::slides::are_blank;
 use crate::ways::Cursor;
@@ -33,31 +34,32 @@ pub struct Shift {
     pub up: bool,
 }
 
-/// The shift that saves most, if one saves enough. Fails only when memory runs out.
+/// The shift that saves most, if one saves enough. The runs are all that differs, by rows. Fails
+/// only when memory runs out.
 #[inline(never)]
-pub fn cheapest_shift<P: RowPrices, R: KnownRows>(
+pub fn cheapest_shift<P: RowPrices>(
     alloc: Global,
     prices: &P,
-    rows: &R,
     cursor: &Cursor,
+    runs: &[Run],
 ) -> Result<Option<Shift>, NoMemory> {
-    if !are_worth_looking(prices, rows) {
+    let chooser = prices.chooser();
+    if !are_worth_looking(chooser, runs) {
         return Ok(None);
     }
-    let samples = Samples::of(alloc, prices, rows)?;
-    let Some(distance) = most_votes(prices, rows, &samples) else {
+    let samples = Samples::of(alloc, chooser, runs)?;
+    let Some(distance) = most_votes(prices, &samples) else {
         return Ok(None);
     };
     let last = with_blank_rows(prices, samples.last);
     let blocks = Blocks {
         prices,
-        rows,
         cursor: *cursor,
         distance,
         first: samples.first,
         last,
     };
-    let lines = Lines::of(alloc, &blocks)?;
+    let lines = Lines::of(alloc, &blocks, runs)?;
     Ok(blocks.best(&lines))
 }
 
@@ -91,17 +93,21 @@ struct Line {
 struct Lines(Vec<Line>);
 
 impl Lines {
-    // Of the rows that blocks may lie in.
-    fn of<P: RowPrices, R: KnownRows>(
+    // Of the rows that blocks may lie in, which have these runs.
+    fn of<P: RowPrices>(
         alloc: Global,
-        blocks: &Blocks<'_, P, R>,
+        blocks: &Blocks<'_, P>,
+        runs: &[Run],
     ) -> Result<Lines, NoMemory> {
         let (first, end) = (blocks.first, blocks.last.saturating_add(1));
         let count = end.saturating_sub(first).saturating_add(1);
         let mut lines = Vec::with_capacity(alloc, count as usize)?;
         let mut saved = 0i64;
+        let mut begun = 0;
         for row in first..end {
-            let (gain, fresh) = blocks.savings(row);
+            let after = runs_end(runs, begun, row);
+            let (gain, fresh) = blocks.savings(row, &runs[begun..after]);
+            begun = after;
             lines.push(Line { gain, saved })?;
             saved = saved.wrapping_add(fresh);
         }
@@ -137,9 +143,8 @@ impl Lines {
 
 // What blocks of rows are compared by: where they may lie, and by how many rows they move.
 #[derive(Drop)]
-struct Blocks<'a, P: RowPrices, R: KnownRows> {
+struct Blocks<'a, P: RowPrices> {
     prices: &'a P,
-    rows: &'a R,
     cursor: Cursor,
     distance: Distance,
     first: u32,
@@ -156,7 +161,7 @@ struct Best {
     least: i64,
 }
 
-impl<P: RowPrices, R: KnownRows> Blocks<'_, P, R> {
+impl<P: RowPrices> Blocks<'_, P> {
     // The best block. First that is found which saves most, then those near it are priced.
     fn best(&self, lines: &Lines) -> Option<Shift> {
         let most = self.best_from(lines, i64::MAX).most;
@@ -212,28 +217,28 @@ impl<P: RowPrices, R: KnownRows> Blocks<'_, P, R> {
         best
     }
 
-    // What a row saves by being painted over the row that comes there, and over blanks. Where that
-    // row is just what is wanted, the places that differ are counted, and runs are not looked for.
-    fn savings(&self, row: u32) -> (i64, i64) {
+    // What a row with these runs saves by being painted over the row that comes there, and over
+    // blanks. Where that row is just what is wanted, the places that differ are counted.
+    fn savings(&self, row: u32, runs: &[Run]) -> (i64, i64) {
         let prices = self.prices;
         let chooser = prices.chooser();
         let coming = match self.distance.source(row) {
-            Some(source) => self.rows.looks(source),
+            Some(source) => prices.looks(source),
             None => &[],
         };
         if prices.is_shown(row, coming) {
-            let counts = Counts::of(self.rows.looks(row), coming);
+            let counts = Counts::of(prices.looks(row), coming);
             let cost = i64::from(counts.price(chooser));
             return (cost, cost - i64::from(counts.price_of_filled(chooser)));
         }
-        let cost = i64::from(price_over_known(prices, self.rows, row));
+        let cost = i64::from(price_of_runs(chooser, runs));
         let blank = chooser.price_of_row(row);
         let over = if coming.is_empty() {
             0
         } else if are_blank(coming) {
             blank
         } else {
-            price_over(prices, row, coming)
+            prices.price_over(row, coming)
         };
         (cost - i64::from(over), cost - i64::from(blank))
     }
@@ -280,7 +285,7 @@ impl<P: RowPrices, R: KnownRows> Blocks<'_, P, R> {
         let inner = shift.end.saturating_sub(shift.count);
         let deleted = Op::DeleteLines(shift.count);
         let inserted = Op::InsertLines(shift.count);
-        let is_last = shift.end >= self.rows.count();
+        let is_last = shift.end >= self.prices.chooser().picture.size().rows;
         let steps = if shift.up {
             let first = self.price_of_step(spot, shift.top, deleted);
             if is_last {

@@ -4,7 +4,7 @@ ghost use Rattle.std.specs.Prelude.{◌≡◌, ◌+◌, ◌≤◌, length, true}
 
 use crate::blanks::is_blank;
 use crate::motions::cheapest_motion;
-use crate::rows::{RowPrices, price_over};
+use crate::rows::{RowPrices, RowRuns, price_of_runs};
 use crate::runs::{How, Run};
 use crate::ways::{Chooser, Cursor};
 use scr_cells::{Cell, Look, NoMemory};
@@ -53,71 +53,45 @@ fn least_operation(prices: &Prices) -> u32 {
         .min(prices.of(Op::DeleteChars(2)))
 }
 
-/// The places of a row that differ: where they begin, and the price of the row.
-#[derive(Clone, Copy)]
-pub struct DifferingRow {
-    start: u32,
-    price: u32,
-}
-
-impl DifferingRow {
-    /// The places that differ of a row with these runs.
-    pub fn of(chooser: &Chooser<'_>, runs: &[Run]) -> DifferingRow {
-        let start = match runs.first() {
-            Some(run) => run.start,
-            None => 0,
-        };
-        let mut price = 0u32;
-        for run in runs {
-            price = price.saturating_add(chooser.price_as_it_stands(run));
-        }
-        DifferingRow { start, price }
-    }
-}
-
-/// Whether it is far enough from the first place that differs to the last, where a row shows
-/// `looks`; `runs` are all of its runs over them.
-pub fn are_wide(looks: &[Look], runs: &[Run]) -> bool {
-    match (runs.first(), runs.last()) {
+/// Whether it is far enough from the first place of a row that differs to the last.
+pub fn are_wide(shown: &RowRuns<'_>) -> bool {
+    match (shown.runs.first(), shown.runs.last()) {
         (Some(first), Some(last)) => {
-            end_of_differing(looks, last).saturating_sub(first.start) >= WORTH_LOOKING
+            end_of_differing(shown.looks, last).saturating_sub(first.start) >= WORTH_LOOKING
         }
         _ => false,
     }
 }
 
-/// The slide of a row that saves most, if one saves enough. The row shows `looks`; `part` is what
-/// differs of it. `room` is for a row that is put together. Fails only when memory runs out.
+/// The slide of a row that saves most, if one saves enough. `room` is for a row that is put
+/// together. Fails only when memory runs out.
 #[inline(never)]
 pub fn cheapest_slide<P: RowPrices>(
     prices: &P,
     cursor: &Cursor,
-    row: u32,
-    looks: &[Look],
-    part: DifferingRow,
+    shown: &RowRuns<'_>,
     room: &mut Vec<Look>,
 ) -> Result<Option<Slide>, NoMemory> {
-    let price = price_without_way(prices, cursor, row, part);
+    let price = price_without_way(prices.chooser(), cursor, shown);
     if price < i64::from(least_operation(prices.chooser().prices)).saturating_add(WORTH) {
         return Ok(None);
     }
-    better_slide(prices, row, looks, part.start, price, room)
+    better_slide(prices, shown, price, room)
 }
 
-// The better of inserting at a column and deleting there, if one saves enough. `price` is that of
-// the row without a slide, less that of going there.
+// The better of inserting at the first column that differs and deleting there, if one saves enough.
+// `price` is that of the row without a slide, less that of going there.
 fn better_slide<P: RowPrices>(
     prices: &P,
-    row: u32,
-    looks: &[Look],
-    column: u32,
+    shown: &RowRuns<'_>,
     price: i64,
     room: &mut Vec<Look>,
 ) -> Result<Option<Slide>, NoMemory> {
-    let inserting = insertion(prices, row, looks, column);
-    let inserted = saved_by(prices, row, looks, price, inserting, room)?;
-    let deleting = deletion(prices, row, looks, column);
-    let deleted = saved_by(prices, row, looks, price, deleting, room)?;
+    let column = first_column(shown);
+    let inserting = insertion(prices.chooser(), shown, column);
+    let inserted = saved_by(prices, shown, price, inserting, room)?;
+    let deleting = deletion(prices.chooser(), shown, column);
+    let deleted = saved_by(prices, shown, price, deleting, room)?;
     if inserted < WORTH && deleted < WORTH {
         return Ok(None);
     }
@@ -144,24 +118,27 @@ fn end_of_differing(looks: &[Look], run: &Run) -> u32 {
 
 // The price of a row as it stands, less that of going to the first of its places that differ with a
 // plain pen.
-fn price_without_way<P: RowPrices>(
-    prices: &P,
-    cursor: &Cursor,
-    row: u32,
-    part: DifferingRow,
-) -> i64 {
-    let chooser = prices.chooser();
+fn price_without_way(chooser: &Chooser<'_>, cursor: &Cursor, shown: &RowRuns<'_>) -> i64 {
     let turn = chooser.price_of_reset(cursor.pen);
-    let motion = cheapest_motion(chooser.prices, cursor.spot, row, part.start).price;
-    i64::from(part.price) - i64::from(turn) - i64::from(motion)
+    let column = first_column(shown);
+    let motion = cheapest_motion(chooser.prices, cursor.spot, shown.row, column).price;
+    i64::from(price_of_runs(chooser, shown.runs)) - i64::from(turn) - i64::from(motion)
+}
+
+// The first column of a row that differs.
+fn first_column(shown: &RowRuns<'_>) -> u32 {
+    match shown.runs.first() {
+        Some(run) => run.start,
+        None => 0,
+    }
 }
 
 // The slide to the right that brings the first places from a column on to where they are wanted,
 // if they are. At least as many places are moved as are inserted: where fewer are, tmux (3.3) leaves
 // places between unchanged that terminfo(5) wants blank.
-fn insertion<P: RowPrices>(prices: &P, row: u32, looks: &[Look], column: u32) -> Option<Slide> {
-    let chooser = prices.chooser();
-    let cells = chooser.cells(row);
+fn insertion(chooser: &Chooser<'_>, shown: &RowRuns<'_>, column: u32) -> Option<Slide> {
+    let looks = shown.looks;
+    let cells = chooser.cells(shown.row);
     let from = column as usize;
     if looks.len() != cells.len() || !has_places(looks.len(), from) {
         return None;
@@ -174,7 +151,7 @@ fn insertion<P: RowPrices>(prices: &P, row: u32, looks: &[Look], column: u32) ->
         if at - from > cells.len() - at {
             return None;
         }
-        if cells[at].byte() == byte && are_seen(prices, looks, from, cells, at) {
+        if cells[at].byte() == byte && are_seen(chooser, looks, from, cells, at) {
             return Some(slide_from(column, at - from, true));
         }
     }
@@ -183,9 +160,9 @@ fn insertion<P: RowPrices>(prices: &P, row: u32, looks: &[Look], column: u32) ->
 
 // The slide to the left that brings places to where they are wanted from a column on, if they are
 // in the row.
-fn deletion<P: RowPrices>(prices: &P, row: u32, looks: &[Look], column: u32) -> Option<Slide> {
-    let chooser = prices.chooser();
-    let cells = chooser.cells(row);
+fn deletion(chooser: &Chooser<'_>, shown: &RowRuns<'_>, column: u32) -> Option<Slide> {
+    let looks = shown.looks;
+    let cells = chooser.cells(shown.row);
     let from = column as usize;
     if looks.len() != cells.len() || !has_places(looks.len(), from) {
         return None;
@@ -195,7 +172,7 @@ fn deletion<P: RowPrices>(prices: &P, row: u32, looks: &[Look], column: u32) -> 
     }
     let byte = cells[from].byte();
     for at in from + 1..looks.len() - (PATTERN - 1) {
-        if looks[at].byte() == byte && are_seen(prices, looks, at, cells, from) {
+        if looks[at].byte() == byte && are_seen(chooser, looks, at, cells, from) {
             return Some(slide_from(column, at - from, false));
         }
     }
@@ -219,8 +196,8 @@ fn slide_from(column: u32, count: usize, inserts: bool) -> Slide {
 }
 
 // Whether looks from a column on are what is seen of cells from another on.
-fn are_seen<P: RowPrices>(
-    prices: &P,
+fn are_seen(
+    chooser: &Chooser<'_>,
     looks: &[Look],
     from: usize,
     cells: &[Cell],
@@ -230,11 +207,17 @@ fn are_seen<P: RowPrices>(
     requires cells { at + 12 ≤ length cells.now }
 {
     for place in 0..PATTERN {
-        if !prices.is_seen(looks[from + place], cells[at + place]) {
+        if !is_seen(chooser, looks[from + place], cells[at + place]) {
             return false;
         }
     }
     true
+}
+
+// Whether a look is what is seen of a cell.
+#[inline(always)]
+fn is_seen(chooser: &Chooser<'_>, look: Look, cell: Cell) -> bool {
+    look.byte() == cell.byte() && look.pen() == chooser.pen_of(cell)
 }
 
 // Whether looks are all blank.
@@ -251,8 +234,7 @@ pub(crate) fn are_blank(looks: &[Look]) -> bool {
 // without the slide, less that of going there.
 fn saved_by<P: RowPrices>(
     prices: &P,
-    row: u32,
-    looks: &[Look],
+    shown: &RowRuns<'_>,
     price: i64,
     slide: Option<Slide>,
     room: &mut Vec<Look>,
@@ -265,6 +247,6 @@ fn saved_by<P: RowPrices>(
     if left < WORTH {
         return Ok(0);
     }
-    prices.slide_into(room, looks, slide)?;
-    Ok(left.saturating_sub(i64::from(price_over(prices, row, room))))
+    let price = prices.price_slid(shown.row, shown.looks, slide, room)?;
+    Ok(left.saturating_sub(i64::from(price)))
 }

@@ -143,6 +143,10 @@ Wipes profile picture top old new = (waits : ℕ × ℕ → Bool) → Keeps prof
 abbrev pub KeepsAbove : ℕ → List Run → List Run → Type 0
 KeepsAbove top old new = (place : ℕ × ℕ) → place.0 < top → in_runs old place ≡ true → in_runs new place ≡ true
 
+-- runs of all rows but one are kept
+abbrev pub KeepsOthers : ℕ → List Run → List Run → Type 0
+KeepsOthers row old new = (place : ℕ × ℕ) → (place.0 == row) ≡ false → in_runs old place ≡ true → in_runs new place ≡ true
+
 -- no place waits any more, and the cursor is as wished
 pub record IsDone (profile : ProfileView) (picture : PictureView) (first : List Op) (start : TerminalState) (draft : Draft) : Type 0 where
   pub right : IsRight profile picture 0 first start (in_runs []) draft

@@ -1,5 +1,5 @@
 -- Settling rows one after another, once rows were shifted: a settled row shows the picture, except in its runs.
-use Rattle.std.specs.Prelude.{ℕ, ◌≡◌, ◌<◌, ◌&&◌, ltb, leb, Bool, false, List, Option, Some, None, if◌then◌else◌}
+use Rattle.std.specs.Prelude.{ℕ, ◌≡◌, ◌<◌, ◌≤◌, ◌&&◌, ltb, leb, Bool, true, false, List, Option, Some, None, if◌then◌else◌}
 use Rattle.scr_cells.specs.Grids.{grid_at, places_left, places_right}
 use Rattle.scr_cells.specs.LookViews.{LookView, blank}
 use Rattle.scr_cells.specs.PictureViews.{PictureView}
@@ -7,7 +7,6 @@ use Rattle.scr_term.specs.declared.operations.operation.Op.{Op}
 use Rattle.scr_term.specs.declared.operations.operation.Op.TheVariants.{DeleteChars, InsertChars}
 use Rattle.scr_term.specs.Operations.Profiles.{ProfileView}
 use Rattle.scr_term.specs.Operations.States.{TerminalState}
-use Rattle.scr_virtual.specs.Ranges.{in_range}
 use Rattle.scr_plan.specs.Code.Drafts.{Aim, IsAimed, in_runs}
 use Rattle.scr_plan.specs.Code.Moves.{shown_at}
 use Rattle.scr_plan.specs.Code.Painters.{shown_in}
@@ -40,14 +39,21 @@ Settles profile picture shift grid n m runs more old new = Aims profile (aim_set
 abbrev pub IsShownRow : ℕ → Option Shift → List (List LookView) → ℕ → Option (List LookView) → Type 0
 IsShownRow columns shift grid row looks = (c : ℕ) → c < columns → shown_in looks c ≡ shown_at shift (grid_at blank grid) row c
 
--- outside these columns a row shows the picture after a shift
-abbrev pub ShowsBeside : ProfileView → PictureView → Option Shift → List (List LookView) → ℕ → Option (ℕ × ℕ) → Type 0
-ShowsBeside profile picture shift grid row range = (c : ℕ) → c < picture.columns → in_range range c ≡ false → shown_at shift (grid_at blank grid) row c ≡ look_at profile picture (row, c)
+-- a row shows the picture after a shift, except in the places that are in a run; so do all rows from one on
+abbrev pub HasShownIn : ProfileView → PictureView → Option Shift → List (List LookView) → List Run → ℕ → Type 0
+HasShownIn profile picture shift grid runs r = (c : ℕ) → c < picture.columns → in_runs runs (r, c) ≡ false → shown_at shift (grid_at blank grid) r c ≡ look_at profile picture (r, c)
+
+abbrev pub HasShown : ProfileView → PictureView → Option Shift → List (List LookView) → ℕ → List Run → Type 0
+HasShown profile picture shift grid n runs = (r : ℕ) → n ≤ r → r < picture.rows → HasShownIn profile picture shift grid runs r
 
 -- a shift changes what a row shows
 abbrev pub is_moved : Option Shift → ℕ → Bool
 is_moved None row = false
 is_moved (Some shift) row = leb shift.top row && ltb row shift.end
+
+-- runs of rows that a shift does not change are kept
+abbrev pub KeepsStill : Shift → List Run → List Run → Type 0
+KeepsStill shift old new = (place : ℕ × ℕ) → is_moved (Some shift) place.0 ≡ false → in_runs old place ≡ true → in_runs new place ≡ true
 
 -- what comes into a place from a row, or a blank
 abbrev pub look_from : Option ℕ → (ℕ → ℕ → LookView) → ℕ → LookView

@@ -1,11 +1,11 @@
-use Rattle.std.proofs.Common.{ap, subst, sym, ◌∙◌, ◌<◌, Some, filter}
+use Rattle.std.proofs.Common.{ap, rules, subst, sym, ◌∙◌, ◌<◌, Some, filter}
 use Rattle.std.specs.List.{flat_map}
 use Rattle.scr_plan.specs.Code.Joinings.{Continues, joined_at}
 use Rattle.scr_plan.specs.Code.Painters.{row_differs}
 use Rattle.scr_plan.specs.Code.Planning.{range_by}
 use Rattle.scr_plan.specs.Repaints.{differs}
 use Rattle.scr_plan.specs.Scratch.{row_places}
-use Rattle.scr_plan.proofs.JoinedRowLaws.{on_ok, outside_looks, shows_row, unlooked_goes}
+use Rattle.scr_plan.proofs.JoinedRowLaws.{on_ok, outside_looks, same_goes, shows_row, unlooked_same}
 use Rattle.scr_plan.proofs.joining.Joining.join_changed.Goals as goal
 
 pub join_row-requires-clause-outside : goal.join_row-requires-clause-outside
@@ -27,4 +27,11 @@ returns-in-Some c =
 
 pub returns-in-None : goal.returns-in-None
 returns-in-None c =
-    unlooked_goes (range_by c.args.update.now.by) c.args.update.now.scene.profile.now c.args.update.now.memory.now c.args.update.now.wanted.now c.requires.update.same c.requires.update.size c.requires.known c.args.row c.requires.row (sym c.in_row.ensures.value ∙ c.in-None.is) c.args.self.now
+    let update = c.args.update.now in
+    same_goes update.scene.profile.now update.wanted.now.picture update.memory.now c.args.row
+    (λ k wide. unlooked_same (range_by update.by) update.scene.profile.now update.memory.now update.wanted.now c.requires.update.same c.requires.update.size c.requires.known c.args.row k c.requires.row wide (sym c.in_row.ensures.value ∙ c.in-None.is)) c.args.self.now
+
+pub returns-then-not-rows-row : goal.returns-then-not-rows-row
+returns-then-not-rows-row c =
+    let update = c.args.update.now in
+    same_goes update.scene.profile.now update.wanted.now.picture update.memory.now c.args.row (c.requires.rows c.args.row c.requires.row (search rules)) c.args.self.now
