@@ -55,12 +55,7 @@ impl Joining {
 
     // Adds what paints each place of a row that differs from what is known of it, if the row is
     // marked.
-    fn join_changed(
-        &mut self,
-        update: &Update<'_>,
-        rows: &[bool],
-        row: u32,
-    ) -> Result<(), NoMemory>
+    fn join_changed(&mut self, update: &Update<'_>, rows: &[bool], row: u32) -> Result<(), NoMemory>
         requires update { IsUpdate update.now }
         requires known { is_known update.now.memory.now ≡ true }
         requires wide { update.now.wanted.now.picture.rows ≤ length rows.now }

@@ -60,12 +60,7 @@ impl Update<'_> {
 
     // The runs of what differs once rows were shifted: of the rows that stay those that were found,
     // and those of what the others show then.
-    fn find_shifted(
-        &self,
-        alloc: Global,
-        shift: Shift,
-        found: &[Run],
-    ) -> Result<Vec<Run>, NoMemory>
+    fn find_shifted(&self, alloc: Global, shift: Shift, found: &[Run]) -> Result<Vec<Run>, NoMemory>
         requires update { IsUpdate self.now }
         requires shift { IsShift self.now.scene.picture.now.rows shift }
         requires shown { HasShown self.now.scene.profile.now self.now.scene.picture.now None self.now.memory.now.state.grid 0 found.now }
@@ -93,12 +88,7 @@ impl Update<'_> {
     }
 
     // Finds those of one of these rows.
-    fn find_in_moved(
-        &self,
-        shift: Shift,
-        row: u32,
-        runs: &mut Vec<Run>,
-    ) -> Result<(), NoMemory>
+    fn find_in_moved(&self, shift: Shift, row: u32, runs: &mut Vec<Run>) -> Result<(), NoMemory>
         requires update { IsUpdate self.now }
         requires shift { IsShift self.now.scene.picture.now.rows shift }
         requires row { row < self.now.scene.picture.now.rows }

@@ -196,13 +196,7 @@ fn slide_from(column: u32, count: usize, inserts: bool) -> Slide {
 }
 
 // Whether looks from a column on are what is seen of cells from another on.
-fn are_seen(
-    chooser: &Chooser<'_>,
-    looks: &[Look],
-    from: usize,
-    cells: &[Cell],
-    at: usize,
-) -> bool
+fn are_seen(chooser: &Chooser<'_>, looks: &[Look], from: usize, cells: &[Cell], at: usize) -> bool
     requires looks { from + 12 ≤ length looks.now }
     requires cells { at + 12 ≤ length cells.now }
 {

@@ -34,8 +34,8 @@ returns-in-Some-clause-one c =
       one.0,
       omega (arith, one.2, c.in-Some.ensures.inside),
       sym (differs_same update.scene.profile.now update.wanted.now.picture update.memory.now row (Some looks) (known_row update.memory.now row looks c.requires.known c.looks.ensures.cells) one.0)
-      ∙ ap (λ p. row_differs p update.wanted.now.picture (Some looks) (row, one.0)) (sym c.requires.update.scene.painter)
-      ∙ ap (λ picture. row_differs update.scene.painter picture (Some looks) (row, one.0)) (sym c.requires.update.picture)
-      ∙ one.3,
+          ∙ ap (λ p. row_differs p update.wanted.now.picture (Some looks) (row, one.0)) (sym c.requires.update.scene.painter)
+          ∙ ap (λ picture. row_differs update.scene.painter picture (Some looks) (row, one.0)) (sym c.requires.update.picture)
+          ∙ one.3,
     ))
     c.add_row.ensures.one
