@@ -28,9 +28,9 @@ use Rattle.scr_plan.proofs.LookingLaws.{not_blank}
 use Rattle.scr_plan.proofs.PlacesLaws.{is_here}
 use Rattle.scr_plan.proofs.PlainLaws.{look_same}
 use Rattle.scr_plan.proofs.ScratchLaws.{place_changed, shown_after}
-use Rattle.scr_plan.specs.Code.Drafts.{Aim, Covers, IsAdded, IsAimed, IsPaid, Keeps, KeepsAll, KeepsEvery, aim_of, in_part, is_calm, is_in, without}
+use Rattle.scr_plan.specs.Code.Drafts.{Aim, Covers, IsAdded, IsAimed, IsPut, Keeps, KeepsAll, KeepsEvery, aim_of, behind_them, in_part, is_calm, is_in, without}
 use Rattle.scr_memory.specs.Memories.{moves_rows}
-use Rattle.scr_plan.specs.Code.Joinings.{counted_up}
+use Rattle.scr_plan.specs.Code.Joinings.{IsCounted, counted_up}
 use Rattle.scr_plan.specs.Code.Painters.{painter_begins, painter_goes, painter_look, painter_of}
 use Rattle.scr_plan.specs.Repaints.{look_eq}
 use Rattle.scr_plan.specs.Scratch.{Fits, enter, goes, look_at, renders, sets_background, sets_foreground}
@@ -43,6 +43,7 @@ use Rattle.scr_plan.specs.declared.strokes.Draft.{Draft}
 -- fewer places may wait, where those that do not are right
 pub weaker_inside : (profile : ProfileView) (picture : PictureView) (waits less : ℕ × ℕ → Bool) (draft : Draft) → ((r c : ℕ) → r < picture.rows → c < picture.columns → less (r, c) ≡ false → waits (r, c) ≡ false) → Keeps profile picture waits less draft draft
 weaker_inside profile picture waits less draft more paid first start right = record {
+  keeps = right.keeps;
   own = right.own;
   ops = right.ops;
   now = right.now;
@@ -95,8 +96,9 @@ drawn laws profile p aim paid first start waits less old new more calm spot pen 
     let had : All (λ op. has profile op ≡ true) more = laws.had profile right.now next more run in
     let sum : price profile (right.own ++ more) ≡ price profile right.own + price profile more = (price_is laws profile).joined right.own more in
     record {
+      keeps = added.keeps ∙ right.keeps;
       own = right.own ++ more;
-      ops = added.ops ∙ ap (λ ops. ops ++ more) right.ops ∙ append_assoc first right.own more;
+      ops = added.ops right.keeps ∙ ap (λ ops. ops ++ more) right.ops ∙ append_assoc first right.own more;
       now = next;
       run = then_runs laws profile start right.now next right.own more right.run run;
       calm = list_all-append (λ op. not (moves_rows op)) right.own more ∙ (λ i. right.calm i && calm i);
@@ -129,11 +131,12 @@ set_on laws profile p old new op pen turns added =
 
 -- operations that were counted after the others
 pub counted : (profile : ProfileView) (old mid new : Draft) (begun : ℕ) (more : List Op) (spot : Spot) (pen : PenView) → begun ≡ length old.ops.items → mid.ops.items ≡ old.ops.items ++ more → mid.bytes ≡ old.bytes
-    → IsPaid profile mid new begun spot pen → IsAdded profile old new more spot pen
-counted profile old mid new begun more spot pen at added bytes paid =
+    → mid.keeps ≡ old.keeps → IsCounted profile mid new begun spot pen → IsAdded profile old new more spot pen
+counted profile old mid new begun more spot pen at added bytes keeps paid =
     let new_ones : drop begun mid.ops.items ≡ more = (λ i. drop (at i) (added i)) ∙ drop-append_seam old.ops.items more in
     record {
-      ops = paid.ops ∙ added;
+      keeps = paid.keeps ∙ keeps;
+      ops = λ kept. paid.ops (keeps ∙ kept) ∙ added;
       bytes = λ had. paid.bytes (subst (All (λ op. has profile op ≡ true)) (sym new_ones) had) ∙ (λ i. counted_up (bytes i + length (all_bytes profile (new_ones i))));
       spot_is = paid.spot_is;
       pen_is = paid.pen_is;
@@ -246,29 +249,15 @@ covers_joined profile picture row from column next old mid new low high one othe
     either place false e = refl
     either place true e = grind (arith, nat_tests)
 
--- a draft after characters of a row from one column up to another, when they are counted
-abbrev pub behind_them : ℕ → ℕ → ℕ → ℕ → Draft → Draft → Draft
-behind_them columns row column place old now = record {
-  ops = now.ops;
-  bytes = counted_up (old.bytes + (place - column));
-  spot = if nat_lt place columns then At row place else Margin row;
-  pen = old.pen;
-}
-
--- characters were added, and are not counted yet
-pub record IsPut (profile : ProfileView) (picture : PictureView) (row column place : ℕ) (old now : Draft) : Type 0 where
-  pub bytes : now.bytes ≡ old.bytes
-  pub spot : now.spot ≡ old.spot
-  pub pen : now.pen ≡ old.pen
-  pub covers : Covers profile picture (in_part row column place) old (behind_them profile.columns row column place old now)
-
 pub put_none : (profile : ProfileView) (picture : PictureView) → Fits profile picture → (row column : ℕ) → column < picture.columns → (old now : Draft) → old.spot ≡ At row column
-    → now.ops.items ≡ old.ops.items → now.bytes ≡ old.bytes → now.spot ≡ old.spot → now.pen ≡ old.pen → IsPut profile picture row column column old now
-put_none profile picture fits row column wide old now here items bytes spot pen = record {
+    → now.ops.items ≡ old.ops.items → now.keeps ≡ old.keeps → now.bytes ≡ old.bytes → now.spot ≡ old.spot → now.pen ≡ old.pen → IsPut profile picture row column column old now
+put_none profile picture fits row column wide old now here items keeps bytes spot pen = record {
+  keeps = keeps;
   bytes = bytes;
   spot = spot;
   pen = pen;
   covers = λ waits paid first start right. covers_none profile picture row column (behind_them profile.columns row column column old now) waits paid first start (record {
+    keeps = right.keeps;
     own = right.own;
     ops = items ∙ right.ops;
     now = right.now;
@@ -286,16 +275,18 @@ put_none profile picture fits row column wide old now here items bytes spot pen 
     inside = grind (arith, nat_tests, wide, fits.columns)
 
 pub put_more : RunLaws → ProfilesHave → GridLaws LookView → (profile : ProfileView) → IsProfile profile → (picture : PictureView) → IsPicture picture → Fits profile picture → (painter : Painter) → painter ≡ painter_of profile → (row column place : ℕ) → row < picture.rows → column ≤ place → place < picture.columns
-    → (byte : ℕ) (old now new : Draft) → old.pen ≡ (painter_look painter picture (row, place)).pen → byte ≡ (painter_look painter picture (row, place)).byte → new.ops.items ≡ now.ops.items ++ Put byte ∷ [] → new.bytes ≡ now.bytes → new.spot ≡ now.spot → new.pen ≡ now.pen
+    → (byte : ℕ) (old now new : Draft) → old.pen ≡ (painter_look painter picture (row, place)).pen → byte ≡ (painter_look painter picture (row, place)).byte → new.ops.items ≡ now.ops.items ++ Put byte ∷ [] → new.keeps ≡ now.keeps → new.bytes ≡ now.bytes → new.spot ≡ now.spot → new.pen ≡ now.pen
     → IsPut profile picture row column place old now → IsPut profile picture row column (place + 1) old new
-put_more laws have grids profile p picture k fits painter who row column place high low wide byte old now new pen is added bytes spot same_pen put = record {
+put_more laws have grids profile p picture k fits painter who row column place high low wide byte old now new pen is added keeps bytes spot same_pen put = record {
+  keeps = keeps ∙ put.keeps;
   bytes = bytes ∙ put.bytes;
   spot = spot ∙ put.spot;
   pen = same_pen ∙ put.pen;
   covers =
       covers_joined profile picture row column place (place + 1) old mid next low (omega arith) put.covers
       (put_covers laws have grids profile p picture k fits painter who row place high wide byte mid next (spot_after profile.columns row place) here pen is refl (record {
-        ops = added;
+        keeps = refl;
+        ops = λ kept. added;
         bytes = λ had. omega (arith, low, put_price profile byte);
         spot_is = refl;
         pen_is = refl;
@@ -315,12 +306,16 @@ put_more laws have grids profile p picture k fits painter who row column place h
     here = ap (λ b. if b then At row place else Margin row) inside
 
 -- they are counted
-pub put_counted : (profile : ProfileView) (picture : PictureView) (row column end : ℕ) → column < end → (old now new : Draft) → new.ops ≡ now.ops → new.bytes ≡ counted_up (old.bytes + (end - column)) → new.spot ≡ spot_after profile.columns row (end - 1) → new.pen ≡ now.pen
+pub put_counted : (profile : ProfileView) (picture : PictureView) (row column end : ℕ) → column < end → (old now new : Draft) → new.ops ≡ now.ops → new.keeps ≡ now.keeps → new.bytes ≡ counted_up (old.bytes + (end - column)) → new.spot ≡ spot_after profile.columns row (end - 1) → new.pen ≡ now.pen
     → IsPut profile picture row column end old now → Covers profile picture (in_part row column end) old new
-put_counted profile picture row column end more old now new ops bytes spot pen put =
+put_counted profile picture row column end more old now new ops keeps bytes spot pen put =
     let last : end - 1 + 1 ≡ end = omega (arith, more) in
     let at : new.spot ≡ (if nat_lt end profile.columns then At row end else Margin row) = spot ∙ ap (λ n. if nat_lt n profile.columns then At row n else Margin row) last in
-    subst (Covers profile picture (in_part row column end) old) (λ i. record { ops = sym ops i; bytes = sym bytes i; spot = sym at i; pen = sym (pen ∙ put.pen) i }) put.covers
+    subst (Covers profile picture (in_part row column end) old) (λ i. record { ops = sym ops i; keeps = sym (keeps ∙ put.keeps) i; bytes = sym bytes i; spot = sym at i; pen = sym (pen ∙ put.pen) i }) put.covers
+
+-- nothing is promised of a draft that is only counted
+pub never_kept : (profile : ProfileView) (picture : PictureView) (covers : ℕ × ℕ → Bool) (old new : Draft) → old.keeps ≡ false → Covers profile picture covers old new
+never_kept profile picture covers old new counts waits paid first start right = (cc (counts, right.keeps))
 
 -- ---- places are erased
 

@@ -30,22 +30,22 @@ use Rattle.scr_plan.specs.Code.Painters.{is_that_pen, painter_begins, painter_lo
 use Rattle.scr_memory.specs.Memories.{MemoryView, is_known}
 use Rattle.scr_plan.specs.Repaints.{IsSizeOf, ShowsOutside, begins_place, brief_place, differing, differs, erased_column, is_none_left, joins_left}
 use Rattle.scr_plan.specs.Scratch.{goes, look_at, places, row_places}
-use Rattle.scr_plan.specs.declared.joining.Joining.{Joining}
+use Rattle.scr_plan.specs.declared.strokes.Draft.{Draft}
 use Rattle.scr_plan.specs.declared.painting.Painter.{Painter}
 
 -- ---- after a place that was painted
 
-pub there_already : (columns : ℕ) (joining : Joining) (row column : ℕ) (left : Option PenView) (pen : PenView) → is_that_pen left pen ≡ true → IsAfter columns joining row column left → column < columns
+pub there_already : (columns : ℕ) (joining : Draft) (row column : ℕ) (left : Option PenView) (pen : PenView) → is_that_pen left pen ≡ true → IsAfter columns joining row column left → column < columns
     → (joining.spot ≡ At row column) × (joining.pen ≡ pen)
 there_already columns joining row column None pen that behind wide = (cc)
 there_already columns joining row column (Some p) pen that behind wide = (behind.1 wide, behind.0 ∙ pen_same p pen that)
 
-pub unless_there : (profile : ProfileView) (painter : Painter) (old : Joining) (left : Option PenView) (place : ℕ × ℕ) (pen : PenView) → is_that_pen left pen ≡ true
+pub unless_there : (profile : ProfileView) (painter : Painter) (old : Draft) (left : Option PenView) (place : ℕ × ℕ) (pen : PenView) → is_that_pen left pen ≡ true
     → Continues profile old old (if is_that_pen left pen then [] else painter_begins painter place pen)
 unless_there profile painter old left place pen that =
     subst (Continues profile old old) (sym (ap (λ b. if b then [] else painter_begins painter place pen) that)) (nothing_goes profile old)
 
-pub unless_led : (profile : ProfileView) (painter : Painter) (old new : Joining) (left : Option PenView) (place : ℕ × ℕ) (pen : PenView) → is_that_pen left pen ≡ false → Continues profile old new (painter_begins painter place pen)
+pub unless_led : (profile : ProfileView) (painter : Painter) (old new : Draft) (left : Option PenView) (place : ℕ × ℕ) (pen : PenView) → is_that_pen left pen ≡ false → Continues profile old new (painter_begins painter place pen)
     → Continues profile old new (if is_that_pen left pen then [] else painter_begins painter place pen)
 unless_led profile painter old new left place pen other led =
     subst (Continues profile old new) (sym (ap (λ b. if b then [] else painter_begins painter place pen) other)) led
@@ -59,14 +59,14 @@ byte_is picture k row column cells byte are is =
     subst IsCharacter (sym (is ∙ ap (λ line. (get_or line column blank_cell).byte) are)) cell.character
 
 -- places that are passed add nothing
-pub passed_goes : (profile : ProfileView) (painter : Painter) (picture : PictureView) (before : Option (List LookView)) (row column next : ℕ) (old : Joining) → column < next
+pub passed_goes : (profile : ProfileView) (painter : Painter) (picture : PictureView) (before : Option (List LookView)) (row column next : ℕ) (old : Draft) → column < next
     → ((c : ℕ) → column ≤ c → c < next → row_differs painter picture before (row, c) ≡ false)
     → Continues profile old old (flat_map (row_paints painter picture before) (filter (row_differs painter picture before) (part_places column (next - column) row)))
 passed_goes profile painter picture before row column next old more same =
     subst (Continues profile old old) (sym (ap (flat_map (row_paints painter picture before)) (passed painter picture before row column next more same).0)) (nothing_goes profile old)
 
 -- a place that is painted
-pub painted_goes : (profile : ProfileView) (painter : Painter) (picture : PictureView) (before : Option (List LookView)) (row column : ℕ) (old new : Joining) (left : Option PenView) (look : LookView)
+pub painted_goes : (profile : ProfileView) (painter : Painter) (picture : PictureView) (before : Option (List LookView)) (row column : ℕ) (old new : Draft) (left : Option PenView) (look : LookView)
     → row_differs painter picture before (row, column) ≡ true → left ≡ pen_before painter picture before row column → look ≡ painter_look painter picture (row, column)
     → Continues profile old new (painter_writes painter left (row, column) look)
     → Continues profile old new (flat_map (row_paints painter picture before) (filter (row_differs painter picture before) (part_places column (column + 1 - column) row)))
@@ -75,13 +75,13 @@ painted_goes profile painter picture before row column old new left look differs
 
 -- ---- a part of a row
 
-pub none_yet : (profile : ProfileView) (painter : Painter) (picture : PictureView) (before : Option (List LookView)) (row from : ℕ) (old : Joining)
+pub none_yet : (profile : ProfileView) (painter : Painter) (picture : PictureView) (before : Option (List LookView)) (row from : ℕ) (old : Draft)
     → Continues profile old old (flat_map (row_paints painter picture before) (filter (row_differs painter picture before) (part_places from (from - from) row)))
 none_yet profile painter picture before row from old =
     let zero_of : from - from ≡ 0 = omega arith in
     subst (Continues profile old old) (sym (ap (λ n. flat_map (row_paints painter picture before) (filter (row_differs painter picture before) (part_places from n row))) zero_of)) (nothing_goes profile old)
 
-pub part_goes : (profile : ProfileView) (painter : Painter) (picture : PictureView) (before : Option (List LookView)) (row from column next : ℕ) (old mid new : Joining) → from ≤ column → column < next
+pub part_goes : (profile : ProfileView) (painter : Painter) (picture : PictureView) (before : Option (List LookView)) (row from column next : ℕ) (old mid new : Draft) → from ≤ column → column < next
     → Continues profile old mid (flat_map (row_paints painter picture before) (filter (row_differs painter picture before) (part_places from (column - from) row)))
     → Continues profile mid new (flat_map (row_paints painter picture before) (filter (row_differs painter picture before) (part_places column (next - column) row)))
     → Continues profile old new (flat_map (row_paints painter picture before) (filter (row_differs painter picture before) (part_places from (next - from) row)))
@@ -113,7 +113,7 @@ part_before d r from e order none =
 
 pub row_whole : (profile : ProfileView) (picture : PictureView) (row : ℕ) (before : Option (List LookView)) (painter : Painter) → painter ≡ painter_of profile → (from end : ℕ) → from ≤ end → end ≤ picture.columns
     → ((c : ℕ) → (c < from) ⊎ (end ≤ c) → c < picture.columns → row_differs painter picture before (row, c) ≡ false)
-    → (old new : Joining) → Continues profile old new (flat_map (row_paints painter picture before) (filter (row_differs painter picture before) (part_places from (end - from) row)))
+    → (old new : Draft) → Continues profile old new (flat_map (row_paints painter picture before) (filter (row_differs painter picture before) (part_places from (end - from) row)))
     → (memory : MemoryView) → ShowsRow memory row before → None ≡ erased_column profile picture memory row
     → Continues profile old new (flat_map (joined_at profile picture memory) (filter (differs profile picture memory) (row_places picture.columns row)))
 row_whole profile picture row before painter who from end order wide outside old new goes memory shows none =
@@ -127,7 +127,7 @@ row_whole profile picture row before painter who from end order wide outside old
 
 pub row_with_rest : (profile : ProfileView) (picture : PictureView) (row : ℕ) (before : Option (List LookView)) (painter : Painter) → painter ≡ painter_of profile → (from e : ℕ) (left : Option PenView) → from ≤ e → e < picture.columns
     → ((c : ℕ) → c < from → c < picture.columns → row_differs painter picture before (row, c) ≡ false) → left ≡ pen_before painter picture before row e → painter_look painter picture (row, e) ≡ blank
-    → (old mid new : Joining) → Continues profile old mid (flat_map (row_paints painter picture before) (filter (row_differs painter picture before) (part_places from (e - from) row)))
+    → (old mid new : Draft) → Continues profile old mid (flat_map (row_paints painter picture before) (filter (row_differs painter picture before) (part_places from (e - from) row)))
     → Continues profile mid new ((if is_that_pen left blank.pen then [] else painter_begins painter (row, e) blank.pen) ++ EraseLine ∷ [])
     → (memory : MemoryView) → ShowsRow memory row before → Some e ≡ erased_column profile picture memory row
     → Continues profile old new (flat_map (joined_at profile picture memory) (filter (differs profile picture memory) (row_places picture.columns row)))
@@ -165,14 +165,14 @@ pub shows_row : (profile : ProfileView) (memory : MemoryView) (virtual : Virtual
 shows_row profile memory virtual size known r looks high are = known_row memory r looks (row_known memory known r (omega (arith, high, size.known_rows))) are
 
 -- a row in which nothing differs
-pub same_goes : (profile : ProfileView) (picture : PictureView) (memory : MemoryView) (r : ℕ) → IsSameRow profile picture memory r → (old : Joining) → Continues profile old old (flat_map (joined_at profile picture memory) (filter (differs profile picture memory) (row_places picture.columns r)))
+pub same_goes : (profile : ProfileView) (picture : PictureView) (memory : MemoryView) (r : ℕ) → IsSameRow profile picture memory r → (old : Draft) → Continues profile old old (flat_map (joined_at profile picture memory) (filter (differs profile picture memory) (row_places picture.columns r)))
 same_goes profile picture memory r same old =
     subst (Continues profile old old) (sym (ap (flat_map (joined_at profile picture memory)) (none_in_part (differs profile picture memory) 0 picture.columns r (λ c low wide. same c (omega (arith, wide)))))) (nothing_goes profile old)
 
 -- ---- all rows
 
 -- one row more
-pub rows_go : (profile : ProfileView) (picture : PictureView) (memory : MemoryView) (row columns : ℕ) (old mid new : Joining)
+pub rows_go : (profile : ProfileView) (picture : PictureView) (memory : MemoryView) (row columns : ℕ) (old mid new : Draft)
     → Continues profile old mid (flat_map (joined_at profile picture memory) (filter (differs profile picture memory) (places row columns)))
     → Continues profile mid new (flat_map (joined_at profile picture memory) (filter (differs profile picture memory) (row_places columns row)))
     → Continues profile old new (flat_map (joined_at profile picture memory) (filter (differs profile picture memory) (places (row + 1) columns)))
@@ -199,17 +199,17 @@ end_rows ranges profile memory virtual same size known end high none =
     ∙ rows_same (differs profile virtual.picture memory) end (virtual.picture.rows - end) virtual.picture.columns
     (λ r low below. row_same ranges profile memory virtual same size known r (omega (arith, below, high)) (none r low (omega (arith, below, high))))
 
-pub nothing_of : (profile : ProfileView) (picture : PictureView) (memory : MemoryView) (n columns : ℕ) (old : Joining) → filter (differs profile picture memory) (places n columns) ≡ []
+pub nothing_of : (profile : ProfileView) (picture : PictureView) (memory : MemoryView) (n columns : ℕ) (old : Draft) → filter (differs profile picture memory) (places n columns) ≡ []
     → Continues profile old old (flat_map (joined_at profile picture memory) (filter (differs profile picture memory) (places n columns)))
 nothing_of profile picture memory n columns old none = subst (Continues profile old old) (sym (ap (flat_map (joined_at profile picture memory)) none)) (nothing_goes profile old)
 
-pub all_of : (profile : ProfileView) (picture : PictureView) (memory : MemoryView) (rows n columns : ℕ) (old new : Joining) → filter (differs profile picture memory) (places rows columns) ≡ filter (differs profile picture memory) (places n columns)
+pub all_of : (profile : ProfileView) (picture : PictureView) (memory : MemoryView) (rows n columns : ℕ) (old new : Draft) → filter (differs profile picture memory) (places rows columns) ≡ filter (differs profile picture memory) (places n columns)
     → Continues profile old new (flat_map (joined_at profile picture memory) (filter (differs profile picture memory) (places n columns)))
     → Continues profile old new (flat_map (joined_at profile picture memory) (filter (differs profile picture memory) (places rows columns)))
 all_of profile picture memory rows n columns old new same goes = subst (Continues profile old new) (sym (ap (flat_map (joined_at profile picture memory)) same)) goes
 
 -- the rows and what ends a repaint
-pub ended : (profile : ProfileView) (old mid new : Joining) (rows resets cursor : List Op) → Continues profile old mid rows → Continues profile mid new (resets ++ cursor) → Continues profile old new (rows ++ resets ++ cursor)
+pub ended : (profile : ProfileView) (old mid new : Draft) (rows resets cursor : List Op) → Continues profile old mid rows → Continues profile mid new (resets ++ cursor) → Continues profile old new (rows ++ resets ++ cursor)
 ended profile old mid new rows resets cursor first last = subst (Continues profile old new) (sym (append_assoc rows resets cursor)) (goes_on profile old mid new rows (resets ++ cursor) first last)
 
 -- ---- whether some place differs
@@ -218,26 +218,6 @@ ended profile old mid new rows resets cursor first last = subst (Continues profi
 pub unlooked_same : (ranges : VirtualView → ℕ → Option (ℕ × ℕ)) (profile : ProfileView) (memory : MemoryView) (virtual : VirtualView) → ShowsOutside ranges profile memory virtual → IsSizeOf virtual.picture memory → is_known memory ≡ true
     → (r c : ℕ) → r < virtual.picture.rows → c < virtual.picture.columns → ranges virtual r ≡ None → differs profile virtual.picture memory (r, c) ≡ false
 unlooked_same ranges profile memory virtual same size known r c high wide none = same_place ranges profile memory virtual same size known r c high wide (ap (λ range. in_range range c) none)
-
--- a row in which the columns that are looked at show what is wanted
-pub looked_same : (ranges : VirtualView → ℕ → Option (ℕ × ℕ)) (profile : ProfileView) (memory : MemoryView) (virtual : VirtualView) → ShowsOutside ranges profile memory virtual → IsSizeOf virtual.picture memory → is_known memory ≡ true
-    → (painter : Painter) → painter ≡ painter_of profile → (r from last next : ℕ) (looks : List LookView) → r < virtual.picture.rows → ranges virtual r ≡ Some (from, last) → looks ≡ grid_row memory.state.grid r
-    → last < next → ((c : ℕ) → from ≤ c → c < next → row_differs painter virtual.picture (Some looks) (r, c) ≡ false)
-    → (c : ℕ) → c < virtual.picture.columns → differs profile virtual.picture memory (r, c) ≡ false
-looked_same ranges profile memory virtual same size known painter who r from last next looks high range are end none c wide = by (nat_lt c from) refl (nat_lt c next) refl
-  where
-    is : row_differs painter virtual.picture (Some looks) (r, c) ≡ false → differs profile virtual.picture memory (r, c) ≡ false
-    is h = sym (differs_same profile virtual.picture memory r (Some looks) (shows_row profile memory virtual size known r looks high are) c) ∙ ap (λ p. row_differs p virtual.picture (Some looks) (r, c)) (sym who) ∙ h
-
-    by : (a : Bool) → nat_lt c from ≡ a → (b : Bool) → nat_lt c next ≡ b → differs profile virtual.picture memory (r, c) ≡ false
-    by true before b h = is (outside_looks ranges profile memory virtual same size known painter who r from last looks high range are c (inl (grind (arith, nat_tests))) wide)
-    by false from_there true h = is (none c (grind (arith, nat_tests)) (grind (arith, nat_tests)))
-    by false from_there false h = is (outside_looks ranges profile memory virtual same size known painter who r from last looks high range are c (inr (grind (arith, nat_tests, end))) wide)
-
-pub looked_differs : (profile : ProfileView) (memory : MemoryView) (virtual : VirtualView) → IsSizeOf virtual.picture memory → is_known memory ≡ true → (painter : Painter) → painter ≡ painter_of profile → (r c : ℕ) (looks : List LookView)
-    → r < virtual.picture.rows → looks ≡ grid_row memory.state.grid r → row_differs painter virtual.picture (Some looks) (r, c) ≡ true → differs profile virtual.picture memory (r, c) ≡ true
-looked_differs profile memory virtual size known painter who r c looks high are h =
-    sym (differs_same profile virtual.picture memory r (Some looks) (shows_row profile memory virtual size known r looks high are) c) ∙ ap (λ p. row_differs p virtual.picture (Some looks) (r, c)) (sym who) ∙ h
 
 pub some_left : (profile : ProfileView) (picture : PictureView) (memory : MemoryView) (r c : ℕ) → r < picture.rows → c < picture.columns → differs profile picture memory (r, c) ≡ true → is_none_left (differing profile picture memory) ≡ false
 some_left profile picture memory r c high wide here = by (differing profile picture memory) (among_differing profile picture memory r c high wide ∙ here)
@@ -259,28 +239,6 @@ pub left_or_not : (profile : ProfileView) (picture : PictureView) (memory : Memo
 left_or_not profile picture memory true none one = let found = one refl in some_left profile picture memory found.0 found.1 found.2 found.3 found.4
 left_or_not profile picture memory false none one = none_left_at profile picture memory (none refl)
 
--- one row more in which nothing differs
-pub more : (profile : ProfileView) (picture : PictureView) (memory : MemoryView) (row : ℕ) → ((r c : ℕ) → r < row → c < picture.columns → differs profile picture memory (r, c) ≡ false)
-    → ((c : ℕ) → c < picture.columns → differs profile picture memory (row, c) ≡ false) → (r c : ℕ) → r < row + 1 → c < picture.columns → differs profile picture memory (r, c) ≡ false
-more profile picture memory row before here r c below wide = by (nat_lt r row) refl
-  where
-    by : (b : Bool) → nat_lt r row ≡ b → differs profile picture memory (r, c) ≡ false
-    by true e = before r c (grind (arith, nat_tests)) wide
-    by false e = let same : r ≡ row = grind (arith, nat_tests, below) in ap (λ k. differs profile picture memory (k, c)) same ∙ here c wide
-
-pub all_rows : (profile : ProfileView) (picture : PictureView) (memory : MemoryView) (row : ℕ) → ((r c : ℕ) → r < row → c < picture.columns → differs profile picture memory (r, c) ≡ false)
-    → ((r : ℕ) → row ≤ r → r < picture.rows → (c : ℕ) → c < picture.columns → differs profile picture memory (r, c) ≡ false) → (r c : ℕ) → r < picture.rows → c < picture.columns → differs profile picture memory (r, c) ≡ false
-all_rows profile picture memory row before behind r c high wide = by (nat_lt r row) refl
-  where
-    by : (b : Bool) → nat_lt r row ≡ b → differs profile picture memory (r, c) ≡ false
-    by true e = before r c (grind (arith, nat_tests)) wide
-    by false e = behind r (grind (arith, nat_tests)) high c wide
-
--- something is to be done where a place differs, or where the cursor is elsewhere
-pub some_differs : (none placed : Bool) → true ≡ not none → (none && placed) ≡ false
-some_differs true placed e = (cc)
-some_differs false placed e = refl
-
 pub not_placed : (none placed : Bool) → placed ≡ false → (none && placed) ≡ false
 not_placed true placed e = e
 not_placed false placed e = refl
@@ -298,11 +256,11 @@ if_ok (Err e) P Q f h = h
 -- ---- places that differ with one pen, counted
 
 -- the characters of a row from one column up to another are counted
-abbrev pub behind_each : ℕ → ℕ → ℕ → ℕ → Joining → Joining
+abbrev pub behind_each : ℕ → ℕ → ℕ → ℕ → Draft → Draft
 behind_each columns row column next old = record old { bytes = counted_up (old.bytes + (next - column)); spot = spot_after columns row (next - 1) }
 
 one_counted : RunLaws → ProfilesHave → (profile : ProfileView) → IsProfile profile → (painter : Painter) (picture : PictureView) → IsPicture picture → (before : Option (List LookView)) (row column : ℕ) → row_differs painter picture before (row, column) ≡ true
-    → (old mid new : Joining) (left : Option PenView) → left ≡ pen_before painter picture before row column
+    → (old mid new : Draft) (left : Option PenView) → left ≡ pen_before painter picture before row column
     → Continues profile old mid (if is_that_pen left (painter_look painter picture (row, column)).pen then [] else painter_begins painter (row, column) (painter_look painter picture (row, column)).pen)
     → mid.spot ≡ At row column → mid.keeps ≡ false → new.bytes ≡ counted_up (mid.bytes + 1) → new.keeps ≡ mid.keeps → new.spot ≡ spot_after profile.columns row column → new.pen ≡ mid.pen
     → Continues profile old new (flat_map (row_paints painter picture before) (filter (row_differs painter picture before) (part_places column (column + 1 - column) row)))
@@ -315,11 +273,11 @@ one_counted laws have profile p painter picture k before row column unlike old m
     never : {R : Type 0} (b : Bool) → b ≡ true → b ≡ false → R
     never b kept counts = (cc)
 
-Counts : ProfileView → Painter → PictureView → Option (List LookView) → ℕ → ℕ → ℕ → Joining → Joining → Type 0
+Counts : ProfileView → Painter → PictureView → Option (List LookView) → ℕ → ℕ → ℕ → Draft → Draft → Type 0
 Counts profile painter picture before row column next old mid =
     Continues profile old (behind_each profile.columns row column next mid) (flat_map (row_paints painter picture before) (filter (row_differs painter picture before) (part_places column (next - column) row)))
 
-each_goes : RunLaws → ProfilesHave → (profile : ProfileView) → IsProfile profile → (painter : Painter) (picture : PictureView) → IsPicture picture → profile.columns ≡ picture.columns → (before : Option (List LookView)) (row column : ℕ) (old mid : Joining) (left : Option PenView)
+each_goes : RunLaws → ProfilesHave → (profile : ProfileView) → IsProfile profile → (painter : Painter) (picture : PictureView) → IsPicture picture → profile.columns ≡ picture.columns → (before : Option (List LookView)) (row column : ℕ) (old mid : Draft) (left : Option PenView)
     → left ≡ pen_before painter picture before row column → mid.keeps ≡ false → mid.spot ≡ At row column
     → Continues profile old mid (if is_that_pen left (painter_look painter picture (row, column)).pen then [] else painter_begins painter (row, column) (painter_look painter picture (row, column)).pen)
     → (n : ℕ) → column + suc n ≤ picture.columns → ((c : ℕ) → column ≤ c → c < column + suc n → row_differs painter picture before (row, c) ≡ true)
@@ -331,7 +289,7 @@ each_goes laws have profile p painter picture k columns before row column old mi
     (omega arith) refl (ap (spot_after profile.columns row) (omega arith)) refl
 each_goes laws have profile p painter picture k columns before row column old mid left is_left counts here begun (suc n) wide unlike alike =
     let at : ℕ = column + suc n in
-    let now : Joining = behind_each profile.columns row column at mid in
+    let now : Draft = behind_each profile.columns row column at mid in
     let last : at ≡ column + n + 1 = omega arith in
     let pen : PenView = (painter_look painter picture (row, at)).pen in
     let before_pen : PenView = (painter_look painter picture (row, column + n)).pen in
@@ -352,7 +310,7 @@ each_goes laws have profile p painter picture k columns before row column old mi
 
 -- places from one column up to another
 pub unlike_goes : RunLaws → ProfilesHave → (profile : ProfileView) → IsProfile profile → (painter : Painter) (picture : PictureView) → IsPicture picture → profile.columns ≡ picture.columns → (before : Option (List LookView)) (row column next : ℕ) → column < next → next ≤ picture.columns
-    → (old mid : Joining) (left : Option PenView) (pen : PenView) → left ≡ pen_before painter picture before row column → pen ≡ (painter_look painter picture (row, column)).pen → old.keeps ≡ false → mid.spot ≡ At row column
+    → (old mid : Draft) (left : Option PenView) (pen : PenView) → left ≡ pen_before painter picture before row column → pen ≡ (painter_look painter picture (row, column)).pen → old.keeps ≡ false → mid.spot ≡ At row column
     → Continues profile old mid (if is_that_pen left pen then [] else painter_begins painter (row, column) pen)
     → ((c : ℕ) → column ≤ c → c < next → row_differs painter picture before (row, c) ≡ true)
     → ((c : ℕ) → column ≤ c → c < next → (painter_look painter picture (row, c)).pen ≡ (painter_look painter picture (row, column)).pen)
@@ -403,7 +361,7 @@ rows_behind f d row columns (suc k) =
           ap (λ n. flat_map f (filter d (places n columns))) more ∙ row_more f d (row + k) columns ∙ ap (λ ops. ops ++ last) before.1 ∙ append_assoc (flat_map f (filter d (places row columns))) before.0 last,
         )
 
-pub rows_counted : RunLaws → (profile : ProfileView) (picture : PictureView) (memory : MemoryView) (row : ℕ) → row ≤ picture.rows → (old new : Joining) (resets cursor : List Op)
+pub rows_counted : RunLaws → (profile : ProfileView) (picture : PictureView) (memory : MemoryView) (row : ℕ) → row ≤ picture.rows → (old new : Draft) (resets cursor : List Op)
     → Continues profile old new (flat_map (joined_at profile picture memory) (filter (differs profile picture memory) (places row picture.columns)))
     → CountsAtMost profile old new (flat_map (joined_at profile picture memory) (filter (differs profile picture memory) (places picture.rows picture.columns)) ++ resets ++ cursor)
 rows_counted laws profile picture memory row few old new resets cursor goes =
@@ -418,5 +376,5 @@ rows_counted laws profile picture memory row few old new resets cursor goes =
     rows_assoc : (a b c d : List Op) → ((a ++ b) ++ c) ++ d ≡ a ++ ((b ++ c) ++ d)
     rows_assoc a b c d = append_assoc (a ++ b) c d ∙ append_assoc a b (c ++ d) ∙ ap (λ l. a ++ l) (sym (append_assoc b c d))
 
-pub all_counted : RunLaws → (profile : ProfileView) (old new : Joining) (more : List Op) → Continues profile old new more → CountsAtMost profile old new more
+pub all_counted : RunLaws → (profile : ProfileView) (old new : Draft) (more : List Op) → Continues profile old new more → CountsAtMost profile old new more
 all_counted laws profile old new more goes = counts_less laws profile old new more [] more goes (sym (append-nil more))

@@ -30,7 +30,7 @@ use Rattle.scr_plan.specs.Code.Painters.{moves_unless_there, painter_begins, pai
 use Rattle.scr_memory.specs.Memories.{IsMemory, MemoryView, is_in_place}
 use Rattle.scr_plan.specs.Repaints.{is_idle, state_after, without_idle}
 use Rattle.scr_plan.specs.Scratch.{enter, goes, look_at, renders, resets, sets_background, sets_foreground}
-use Rattle.scr_plan.specs.declared.joining.Joining.{Joining}
+use Rattle.scr_plan.specs.declared.strokes.Draft.{Draft}
 use Rattle.scr_plan.specs.declared.painting.Painter.{Painter}
 
 -- ---- counting
@@ -143,7 +143,7 @@ busy_becomes profile old new ops run less = record { run = run; kept_run = run; 
 -- ---- what a joining becomes
 
 -- operations that were added after the others: counted, and kept where that is asked for
-pub led : RunLaws → (profile : ProfileView) → IsProfile profile → (stores : Bool) (first : List Op) (start : TerminalState) (all : List Op) (old new : Joining) (more kept : List Op) (next : TerminalState)
+pub led : RunLaws → (profile : ProfileView) → IsProfile profile → (stores : Bool) (first : List Op) (start : TerminalState) (all : List Op) (old new : Draft) (more kept : List Op) (next : TerminalState)
     → (old.keeps ≡ true → new.ops.items ≡ old.ops.items ++ kept) → new.bytes ≡ counted_up (old.bytes + price profile kept) → new.keeps ≡ old.keeps
     → (joining : IsJoining profile stores first start all old) → Becomes profile joining.now next more kept → next.spot ≡ new.spot → next.pen ≡ new.pen → IsJoining profile stores first start (all ++ more) new
 led laws profile p stores first start all old new more kept next added paid keeps joining becomes spot_is pen_is =
@@ -165,7 +165,7 @@ led laws profile p stores first start all old new more kept next added paid keep
     }
 
 -- the same of operations that were pushed first and then counted
-pub went : RunLaws → (profile : ProfileView) → IsProfile profile → (stores : Bool) (first : List Op) (start : TerminalState) (all : List Op) (old mid new : Joining) (begun : ℕ) (more kept : List Op) (spot : Spot) (pen : PenView) (next : TerminalState)
+pub went : RunLaws → (profile : ProfileView) → IsProfile profile → (stores : Bool) (first : List Op) (start : TerminalState) (all : List Op) (old mid new : Draft) (begun : ℕ) (more kept : List Op) (spot : Spot) (pen : PenView) (next : TerminalState)
     → begun ≡ length old.ops.items → mid.ops.items ≡ old.ops.items ++ kept → mid.bytes ≡ old.bytes → mid.keeps ≡ old.keeps → IsCounted profile mid new begun spot pen
     → (joining : IsJoining profile stores first start all old) → Becomes profile joining.now next more kept → next.spot ≡ spot → next.pen ≡ pen → IsJoining profile stores first start (all ++ more) new
 went laws profile p stores first start all old mid new begun more kept spot pen next at added bytes keeps counted joining becomes spot_is pen_is =
@@ -216,7 +216,7 @@ begins_become laws have profile p picture k place inside old state =
 -- ---- what each part adds
 
 -- a plain pen, and default colours
-pub reset_goes : RunLaws → ProfilesHave → (profile : ProfileView) → IsProfile profile → (painter : Painter) → painter ≡ painter_of profile → (old mid new : Joining) (begun : ℕ) (pen : PenView)
+pub reset_goes : RunLaws → ProfilesHave → (profile : ProfileView) → IsProfile profile → (painter : Painter) → painter ≡ painter_of profile → (old mid new : Draft) (begun : ℕ) (pen : PenView)
     → begun ≡ length old.ops.items → mid.ops.items ≡ old.ops.items ++ resets_unless_plain painter old.pen → mid.bytes ≡ old.bytes → mid.keeps ≡ old.keeps → IsCounted profile mid new begun old.spot pen → pen ≡ plain_pen
     → Continues profile old new (resets profile)
 reset_goes laws have profile p painter who old mid new begun pen at added bytes keeps counted is_plain stores first start all joining =
@@ -226,7 +226,7 @@ reset_goes laws have profile p painter who old mid new begun pen at added bytes 
 
 -- what leads to a place
 pub begin_goes : RunLaws → ProfilesHave → (profile : ProfileView) → IsProfile profile → (picture : PictureView) → IsPicture picture → (painter : Painter) → painter ≡ painter_of profile → (place : ℕ × ℕ) → IsPlace profile.rows profile.columns place → (pen : PenView) → pen ≡ (look_at profile picture place).pen
-    → (old mid new : Joining) (begun : ℕ) → begun ≡ length old.ops.items → mid.ops.items ≡ old.ops.items ++ painter_leads painter old.spot old.pen place pen → mid.bytes ≡ old.bytes → mid.keeps ≡ old.keeps → IsCounted profile mid new begun (At place.0 place.1) pen
+    → (old mid new : Draft) (begun : ℕ) → begun ≡ length old.ops.items → mid.ops.items ≡ old.ops.items ++ painter_leads painter old.spot old.pen place pen → mid.bytes ≡ old.bytes → mid.keeps ≡ old.keeps → IsCounted profile mid new begun (At place.0 place.1) pen
     → Continues profile old new (painter_begins painter place pen)
 begin_goes laws have profile p picture k painter who place inside pen is old mid new begun at added bytes keeps counted stores first start all joining =
     let own : PenView = (look_at profile picture place).pen in
@@ -237,7 +237,7 @@ begin_goes laws have profile p picture k painter who place inside pen is old mid
     (begins_become laws have profile p picture k place inside joining.now joining.state) refl (sym is))
 
 -- a character
-pub put_goes : RunLaws → ProfilesHave → (profile : ProfileView) → IsProfile profile → (byte : ℕ) → IsCharacter byte → (old new : Joining) (r c : ℕ) → old.spot ≡ At r c
+pub put_goes : RunLaws → ProfilesHave → (profile : ProfileView) → IsProfile profile → (byte : ℕ) → IsCharacter byte → (old new : Draft) (r c : ℕ) → old.spot ≡ At r c
     → (old.keeps ≡ true → new.ops.items ≡ old.ops.items ++ Put byte ∷ []) → new.bytes ≡ counted_up (old.bytes + 1) → new.keeps ≡ old.keeps → new.spot ≡ spot_after profile.columns r c → new.pen ≡ old.pen
     → Continues profile old new (Put byte ∷ [])
 put_goes laws have profile p byte is old new r c here added paid keeps behind pen stores first start all joining =
@@ -248,7 +248,7 @@ put_goes laws have profile p byte is old new r c here added paid keeps behind pe
     (busy_becomes profile now next (Put byte ∷ []) run (busy profile now (Put byte) (λ s. refl) [] (λ s. refl))) (sym behind) (joining.pen ∙ sym pen)
 
 -- the rest of a line is erased
-pub erase_goes : RunLaws → (profile : ProfileView) → IsProfile profile → has profile EraseLine ≡ true → (old mid new : Joining) (begun r c : ℕ) → old.spot ≡ At r c → is_plain_pen old.pen ≡ true
+pub erase_goes : RunLaws → (profile : ProfileView) → IsProfile profile → has profile EraseLine ≡ true → (old mid new : Draft) (begun r c : ℕ) → old.spot ≡ At r c → is_plain_pen old.pen ≡ true
     → begun ≡ length old.ops.items → mid.ops.items ≡ old.ops.items ++ EraseLine ∷ [] → mid.bytes ≡ old.bytes → mid.keeps ≡ old.keeps → IsCounted profile mid new begun (At r c) old.pen
     → Continues profile old new (EraseLine ∷ [])
 erase_goes laws profile p had old mid new begun r c here plain at added bytes keeps counted stores first start all joining =
@@ -262,7 +262,7 @@ erase_goes laws profile p had old mid new begun r c here plain at added bytes ke
     (busy_becomes profile now next (EraseLine ∷ []) run (busy profile now EraseLine (λ s. refl) [] (λ s. refl))) (joining.spot ∙ here) joining.pen
 
 -- the cursor where it is wished
-pub cursor_goes : RunLaws → ProfilesHave → (profile : ProfileView) → IsProfile profile → (place : ℕ × ℕ) → IsPlace profile.rows profile.columns place → (old mid new : Joining) (begun : ℕ) → is_plain_pen old.pen ≡ true
+pub cursor_goes : RunLaws → ProfilesHave → (profile : ProfileView) → IsProfile profile → (place : ℕ × ℕ) → IsPlace profile.rows profile.columns place → (old mid new : Draft) (begun : ℕ) → is_plain_pen old.pen ≡ true
     → begun ≡ length old.ops.items → mid.ops.items ≡ old.ops.items ++ moves_unless_there old.spot place → mid.bytes ≡ old.bytes → mid.keeps ≡ old.keeps → IsCounted profile mid new begun (At place.0 place.1) old.pen
     → Continues profile old new (Move place.0 place.1 ∷ [])
 cursor_goes laws have profile p place inside old mid new begun plain at added bytes keeps counted stores first start all joining =
@@ -272,16 +272,16 @@ cursor_goes laws have profile p place inside old mid new begun plain at added by
     (move_becomes profile (have profile p) joining.now place inside free) refl joining.pen
 
 -- nothing more
-pub nothing_goes : (profile : ProfileView) (old : Joining) → Continues profile old old []
+pub nothing_goes : (profile : ProfileView) (old : Draft) → Continues profile old old []
 nothing_goes profile old stores first start all joining = subst (λ ops. IsJoining profile stores first start ops old) (sym (append-nil all)) joining
 
 -- one part and then another
-pub goes_on : (profile : ProfileView) (old mid new : Joining) (xs ys : List Op) → Continues profile old mid xs → Continues profile mid new ys → Continues profile old new (xs ++ ys)
+pub goes_on : (profile : ProfileView) (old mid new : Draft) (xs ys : List Op) → Continues profile old mid xs → Continues profile mid new ys → Continues profile old new (xs ++ ys)
 goes_on profile old mid new xs ys one other stores first start all joining =
     subst (λ ops. IsJoining profile stores first start ops new) (append_assoc all xs ys) (other stores first start (all ++ xs) (one stores first start all joining))
 
 -- what comes after is not counted yet
-pub counts_less : RunLaws → (profile : ProfileView) (old new : Joining) (xs ys more : List Op) → Continues profile old new xs → more ≡ xs ++ ys → CountsAtMost profile old new more
+pub counts_less : RunLaws → (profile : ProfileView) (old new : Draft) (xs ys more : List Op) → Continues profile old new xs → more ≡ xs ++ ys → CountsAtMost profile old new more
 counts_less laws profile old new xs ys more goes is stores first start all joining =
     let now = goes stores first start all joining in
     let cut : without_idle profile start (all ++ more) ≡ without_idle profile start (all ++ xs) ++ without_idle profile now.now ys =
@@ -318,7 +318,7 @@ first_resets profile can state may = by (is_there profile Sgr0) refl may
     by false there (inr e) = nothing_becomes profile state (plain state) (is_plain_pen state.pen) (ap (λ s. Some s) (same e))
 
 pub begun_joining : RunLaws → ProfilesHave → (profile : ProfileView) → IsProfile profile → (painter : Painter) → painter ≡ painter_of profile → (memory : MemoryView) → IsMemory memory → memory.rows ≡ profile.rows → memory.columns ≡ profile.columns
-    → (is_there profile Sgr0 ≡ true) ⊎ (is_plain_pen memory.state.pen ≡ true) → (first ops part : List Op) (joining : Joining) → ops ≡ first ++ resets_unless_plain painter memory.state.pen → part ≡ drop (length first) ops
+    → (is_there profile Sgr0 ≡ true) ⊎ (is_plain_pen memory.state.pen ≡ true) → (first ops part : List Op) (joining : Draft) → ops ≡ first ++ resets_unless_plain painter memory.state.pen → part ≡ drop (length first) ops
     → (All (λ op. has profile op ≡ true) part → joining.bytes ≡ counted_up (price profile part)) → joining.ops.items ≡ ops → joining.spot ≡ memory.state.spot → joining.pen ≡ plain_pen
     → IsJoining profile joining.keeps first memory.state (resets profile) joining
 begun_joining laws have profile p painter who memory is rows columns may first ops part joining made cut paid items spot pen =

@@ -71,6 +71,7 @@ pub row_settled : (profile : ProfileView) (picture : PictureView) (shift : Optio
     → ((r c : ℕ) → c < picture.columns → (r < row) ⊎ (row + 1 ≤ r) → look (r, c) ≡ look_settled profile picture shift grid row (r, c)) → KeepsAbove row some more → ((c : ℕ) → c < picture.columns → in_runs more (row, c) ≡ false → look (row, c) ≡ look_at profile picture (row, c))
     → Aims profile (record { rows = picture.rows; columns = picture.columns; look = look }) (in_first row some) (aim_settled profile picture shift grid (row + 1)) (in_first (row + 1) more) draft draft
 row_settled profile picture shift grid row look some more draft others keeps own paid first start right = record {
+  keeps = right.keeps;
   own = right.own;
   ops = right.ops;
   now = right.now;
@@ -105,6 +106,7 @@ row_settled profile picture shift grid row look some more draft others keeps own
 pub rows_stay : (profile : ProfileView) (picture : PictureView) (shift : Option Shift) (grid : List (List LookView)) (n m : ℕ) (runs : List Run) (draft : Draft) → n ≤ m → ((r : ℕ) → n ≤ r → r < m → r < picture.rows → HasShownIn profile picture shift grid runs r)
     → Settles profile picture shift grid n m runs runs draft draft
 rows_stay profile picture shift grid n m runs draft order shown paid first start right = record {
+  keeps = right.keeps;
   own = right.own;
   ops = right.ops;
   now = right.now;
@@ -206,8 +208,9 @@ drawn_to laws profile p aim other paid first start waits old new more calm spot 
     let had : All (λ op. has profile op ≡ true) more = laws.had profile right.now next more run in
     let sum : price profile (right.own ++ more) ≡ price profile right.own + price profile more = (price_is laws profile).joined right.own more in
     record {
+      keeps = added.keeps ∙ right.keeps;
       own = right.own ++ more;
-      ops = added.ops ∙ ap (λ ops. ops ++ more) right.ops ∙ append_assoc first right.own more;
+      ops = added.ops right.keeps ∙ ap (λ ops. ops ++ more) right.ops ∙ append_assoc first right.own more;
       now = next;
       run = then_runs laws profile start right.now next right.own more right.run run;
       calm = list_all-append (λ op. not (moves_rows op)) right.own more ∙ (λ i. right.calm i && calm i);
@@ -353,6 +356,7 @@ settles_then profile picture shift grid n m k some more most old mid new one oth
 
 begun_sent : (profile : ProfileView) (memory : MemoryView) (draft : Draft) → IsBegun memory draft → IsState (abilities profile) memory.state → IsSent profile memory.state memory.state.grid draft
 begun_sent profile memory draft begun is = record {
+  keeps = begun.keeps;
   now = memory.state;
   run = ap (λ ops. runs profile memory.state ops) begun.ops;
   state = is;
@@ -371,6 +375,7 @@ settled_moves grids profile memory picture fits is shift some more old mid new b
     let sent : IsSent profile memory.state (grid_of profile.rows profile.columns (shown_at shift (grid_at blank grid))) mid = sends memory.state grid (begun_sent profile memory old begun is) in
     let paid : ℕ = length (all_bytes profile mid.ops.items) in
     let before : IsAimed profile (aim_settled profile picture shift grid 0) paid mid.ops.items sent.now (in_first 0 some) mid = record {
+      keeps = sent.keeps;
       own = [];
       ops = sym (append-nil mid.ops.items);
       now = sent.now;
@@ -391,6 +396,7 @@ settled_moves grids profile memory picture fits is shift some more old mid new b
       mid = sent.now;
       led = sent.run;
       right = record {
+        keeps = right.keeps;
         own = right.own;
         ops = right.ops;
         now = right.now;
@@ -405,13 +411,14 @@ settled_moves grids profile memory picture fits is shift some more old mid new b
     }
 
 -- only the room for operations became another
-pub same_moved : (profile : ProfileView) (picture : PictureView) (start : TerminalState) (waits : ℕ × ℕ → Bool) (old new : Draft) → new.ops.items ≡ old.ops.items → new.bytes ≡ old.bytes → new.spot ≡ old.spot → new.pen ≡ old.pen
+pub same_moved : (profile : ProfileView) (picture : PictureView) (start : TerminalState) (waits : ℕ × ℕ → Bool) (old new : Draft) → new.ops.items ≡ old.ops.items → new.keeps ≡ old.keeps → new.bytes ≡ old.bytes → new.spot ≡ old.spot → new.pen ≡ old.pen
     → IsMoved profile picture start waits old → IsMoved profile picture start waits new
-same_moved profile picture start waits old new ops bytes spot pen moved = record {
+same_moved profile picture start waits old new ops keeps bytes spot pen moved = record {
   first = moved.first;
   mid = moved.mid;
   led = moved.led;
   right = record {
+    keeps = keeps ∙ moved.right.keeps;
     own = moved.right.own;
     ops = ops ∙ moved.right.ops;
     now = moved.right.now;

@@ -30,6 +30,7 @@ sent_kept laws grids profile old new keeps start grid sent =
     let paid : ℕ = length (all_bytes profile old.ops.items) in
     let is : IsAimed profile aim paid old.ops.items sent.now (λ _. false) new =
     keeps aim (λ _. false) paid old.ops.items sent.now (record {
+      keeps = sent.keeps;
       own = [];
       ops = sym (append-nil old.ops.items);
       now = sent.now;
@@ -43,6 +44,7 @@ sent_kept laws grids profile old new keeps start grid sent =
     }) in
     let whole : IsGrid profile.rows profile.columns grid = subst (IsGrid profile.rows profile.columns) sent.grid_is sent.state.whole in
     record {
+      keeps = is.keeps;
       now = is.now;
       run = ap (λ ops. runs profile start ops) is.ops ∙ then_runs laws profile start sent.now is.now old.ops.items is.own sent.run is.run;
       state = is.state;
@@ -65,10 +67,11 @@ op_sent laws profile p old new op move acts had added start grid sent =
     let next : TerminalState = record sent.now { grid = grid_of profile.rows profile.columns (move (grid_at blank sent.now.grid)) } in
     let run : runs profile sent.now (op ∷ []) ≡ Some next = one_run profile sent.now next op had (acts sent.now sent.spot sent.pen) in
     let sum : price profile (old.ops.items ++ op ∷ []) ≡ price profile old.ops.items + price profile (op ∷ []) = (price_is laws profile).joined old.ops.items (op ∷ []) in
-    let whole : length (all_bytes profile new.ops.items) ≡ price profile old.ops.items + price profile (op ∷ []) = ap (price profile) added.ops ∙ sum in
+    let whole : length (all_bytes profile new.ops.items) ≡ price profile old.ops.items + price profile (op ∷ []) = ap (price profile) (added.ops sent.keeps) ∙ sum in
     record {
+      keeps = added.keeps ∙ sent.keeps;
       now = next;
-      run = ap (λ ops. runs profile start ops) added.ops ∙ then_runs laws profile start sent.now next old.ops.items (op ∷ []) sent.run run;
+      run = ap (λ ops. runs profile start ops) (added.ops sent.keeps) ∙ then_runs laws profile start sent.now next old.ops.items (op ∷ []) sent.run run;
       state = laws.kept profile p sent.now next sent.state (op ∷ []) run;
       grid_is = ap (λ g. grid_of profile.rows profile.columns (move (grid_at blank g))) sent.grid_is;
       bytes = added.bytes (laws.had profile sent.now next (op ∷ []) run) ∙ counted_on (price profile old.ops.items) (price profile (op ∷ [])) old.bytes (length (all_bytes profile new.ops.items)) sent.bytes whole;

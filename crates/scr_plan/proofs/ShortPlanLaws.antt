@@ -68,11 +68,12 @@ changes_done profile picture start all some old mid new moved wiped painted plac
 
 -- from a cleared screen
 pub anew_done : BlankLaws → (profile : ProfileView) → IsProfile profile → (picture : PictureView) → Fits profile picture → (painter : Painter) → painter ≡ painter_of profile → (all : List Run) → HasMarks painter picture all 0 picture.rows → (old new : Draft) (first : List Op)
-    → old.ops.items ≡ first → old.bytes ≡ 0 → old.spot ≡ At 0 0 → old.pen ≡ plain_pen → Leaves profile picture all [] old new
+    → old.keeps ≡ true → old.ops.items ≡ first → old.bytes ≡ 0 → old.spot ≡ At 0 0 → old.pen ≡ plain_pen → Leaves profile picture all [] old new
     → IfSome picture.wish (λ place. new.spot ≡ At place.0 place.1) → IsDone profile picture first (blank_state profile.rows profile.columns) new
-anew_done laws profile p picture fits painter who all marks old new first ops bytes spot pen painted placed = record {
+anew_done laws profile p picture fits painter who all marks old new first keeps ops bytes spot pen painted placed = record {
   right =
       painted 0 first (blank_state profile.rows profile.columns) (record {
+        keeps = keeps;
         own = [];
         ops = ops ∙ sym (append-nil first);
         now = blank_state profile.rows profile.columns;

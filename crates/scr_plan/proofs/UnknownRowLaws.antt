@@ -131,6 +131,7 @@ still profile memory (op ∷ ops) now calm spot pen run = by (step profile memor
 
 pub knows_weaker : (profile : ProfileView) (memory : MemoryView) (known less : ℕ → Bool) (draft : Draft) → ((r : ℕ) → less r ≡ true → known r ≡ true) → Knows profile memory known draft → Knows profile memory less draft
 knows_weaker profile memory known less draft fewer knows = record {
+  keeps = knows.keeps;
   may = knows.may;
   known_spot = knows.known_spot;
   known_pen = knows.known_pen;
@@ -141,14 +142,15 @@ knows_weaker profile memory known less draft fewer knows = record {
 }
 
 -- operations more that are defined from what is remembered
-knows_more : MemoryRuns → (profile : ProfileView) → IsProfile profile → (memory : MemoryView) (known : ℕ → Bool) (old new : Draft) (own : List Op) (now : TerminalState) → Knows profile memory known old → new.ops.items ≡ old.ops.items ++ own → is_calm own ≡ true
+knows_more : MemoryRuns → (profile : ProfileView) → IsProfile profile → (memory : MemoryView) (known : ℕ → Bool) (old new : Draft) (own : List Op) (now : TerminalState) → Knows profile memory known old → new.keeps ≡ old.keeps → new.ops.items ≡ old.ops.items ++ own → is_calm own ≡ true
     → runs profile (all_followed profile old.ops.items memory).state own ≡ Some now → now.spot ≡ new.spot → now.pen ≡ new.pen → new.bytes ≡ counted_up new.bytes → Knows profile memory known new
-knows_more laws profile p memory known old new own now knows ops calm run spot pen bytes =
+knows_more laws profile p memory known old new own now knows keeps ops calm run spot pen bytes =
     let m : MemoryView = all_followed profile old.ops.items memory in
     let same : all_followed profile new.ops.items memory ≡ all_followed profile own m = ap (λ o. all_followed profile o memory) ops ∙ laws.joined profile memory old.ops.items own in
     let state : (all_followed profile new.ops.items memory).state ≡ now = ap (λ (m : MemoryView). m.state) same ∙ laws.state profile m now own run in
     let stays : Still profile m own = still profile m own now calm knows.known_spot knows.known_pen run in
     record {
+      keeps = keeps ∙ knows.keeps;
       may = subst (MayBe (abilities profile)) (sym same) (laws.stays_possible profile p m own knows.may);
       known_spot = ap (λ (m : MemoryView). m.known_spot) same ∙ stays.known_spot;
       known_pen = ap (λ (m : MemoryView). m.known_pen) same ∙ stays.known_pen;
@@ -164,6 +166,7 @@ knows_kept laws profile p picture memory known old new keeps knows =
     let m : MemoryView = all_followed profile old.ops.items memory in
     let right : IsRight profile picture old.bytes old.ops.items m.state (λ _. true) new =
     keeps (λ _. true) old.bytes old.ops.items m.state (record {
+      keeps = knows.keeps;
       own = [];
       ops = sym (append-nil old.ops.items);
       now = m.state;
@@ -175,7 +178,7 @@ knows_kept laws profile p picture memory known old new keeps knows =
       pen = knows.pen;
       shows = λ r c high wide e. never true refl e;
     }) in
-    knows_more laws profile p memory known old new right.own right.now knows right.ops right.calm right.run right.spot right.pen (omega (arith, right.bytes))
+    knows_more laws profile p memory known old new right.own right.now knows (right.keeps ∙ sym knows.keeps) right.ops right.calm right.run right.spot right.pen (omega (arith, right.bytes))
 
 -- an erasure, where the cursor and the pen are known
 knows_by : RunLaws → MemoryRuns → (profile : ProfileView) → IsProfile profile → (memory : MemoryView) (known more : ℕ → Bool) (old new : Draft) (op : Op) (next : TerminalState) → clears op ≡ false → moves_rows op ≡ false → has profile op ≡ true
@@ -186,13 +189,14 @@ knows_by run_laws laws profile p memory known more old new op next dirty still_t
     let stepped_to : step profile m.state op ≡ Some next = ap (λ b. if b then act profile m.state op else None) had ∙ acted in
     let run : runs profile m.state (op ∷ []) ≡ Some next = one_run profile m.state next op had acted in
     let bytes : new.bytes ≡ counted_up new.bytes = omega (arith, added.bytes (run_laws.had profile m.state next (op ∷ []) run)) in
-    let goes_on = knows_more laws profile p memory known old new (op ∷ []) next knows added.ops (λ i. not (still_there i) && true) run (spot ∙ sym added.spot_is) (pen ∙ sym added.pen_is) bytes in
+    let goes_on = knows_more laws profile p memory known old new (op ∷ []) next knows added.keeps (added.ops knows.keeps) (λ i. not (still_there i) && true) run (spot ∙ sym added.spot_is) (pen ∙ sym added.pen_is) bytes in
     let same : all_followed profile new.ops.items memory ≡ stepped (abilities profile) op m (Some next) =
-    ap (λ o. all_followed profile o memory) added.ops ∙ laws.joined profile memory old.ops.items (op ∷ []) ∙ ap (λ n. stepped (abilities profile) op m n) stepped_to in
+    ap (λ o. all_followed profile o memory) (added.ops knows.keeps) ∙ laws.joined profile memory old.ops.items (op ∷ []) ∙ ap (λ n. stepped (abilities profile) op m n) stepped_to in
     let rows : (all_followed profile new.ops.items memory).known_rows ≡ (if (changes_cells op && not (true && true)) || (false && not (is_known m)) then replicate (length m.known_rows) false else rows_erased op old.spot m.known_rows) =
     ap (λ (m : MemoryView). m.known_rows) same
     ∙ (λ i. if dirty i then replicate (length m.known_rows) true else (if (changes_cells op && not (knows.known_spot i && knows.known_pen i)) || (still_there i && not (is_known m)) then replicate (length m.known_rows) false else rows_erased op (spot i) m.known_rows)) in
     record {
+      keeps = goes_on.keeps;
       may = goes_on.may;
       known_spot = goes_on.known_spot;
       known_pen = goes_on.known_pen;
@@ -259,6 +263,7 @@ begins_plain profile row = resets profile ++ Move row 0 ∷ []
 
 -- a draft that begins so
 pub record IsBegun (profile : ProfileView) (row : ℕ) (draft : Draft) : Type 0 where
+  pub keeps : draft.keeps ≡ true
   pub ops : draft.ops.items ≡ begins_plain profile row
   pub bytes : draft.bytes ≡ counted_up (length (all_bytes profile (resets profile)) + length (all_bytes profile (Move row 0 ∷ [])))
   pub spot_is : draft.spot ≡ At row 0
@@ -274,15 +279,16 @@ begun_run laws have profile p row high wide start state =
 
 -- how the draft was made
 pub begun_is : RunLaws → ProfilesHave → (profile : ProfileView) → IsProfile profile → (painter : Painter) → painter ≡ painter_of profile → (row : ℕ) → row < profile.rows → 0 < profile.columns → (ops : List Op) → ops ≡ [] ++ painter_resets painter → (price : ℕ)
-    → (All (λ op. has profile op ≡ true) ops → price ≡ counted_up (length (all_bytes profile ops))) → (start : TerminalState) → IsState (abilities profile) start → (old new : Draft) → old.ops.items ≡ ops → old.bytes ≡ price
+    → (All (λ op. has profile op ≡ true) ops → price ≡ counted_up (length (all_bytes profile ops))) → (start : TerminalState) → IsState (abilities profile) start → (old new : Draft) → old.keeps ≡ true → old.ops.items ≡ ops → old.bytes ≡ price
     → (pen : PenView) → pen ≡ plain_pen → IsAdded profile old new (Move row 0 ∷ []) (At row 0) pen → IsBegun profile row new
-begun_is laws have profile p painter who row high wide ops made price priced start state old new items bytes pen is added =
+begun_is laws have profile p painter who row high wide ops made price priced start state old new keeps items bytes pen is added =
     let first : ops ≡ resets profile = made ∙ ap painter_resets who in
     let reset : runs profile start ops ≡ Some (made_plain start) = ap (runs profile start) first ∙ resets_run profile (have profile p) start state.pen in
     let paid : price ≡ counted_up (length (all_bytes profile (resets profile))) = priced (laws.had profile start (made_plain start) ops reset) ∙ ap (λ o. counted_up (length (all_bytes profile o))) first in
     let more : new.bytes ≡ counted_up (old.bytes + length (all_bytes profile (Move row 0 ∷ []))) = added.bytes (laws.had profile (made_plain start) (plain (at_place start (row, 0))) (Move row 0 ∷ []) (moved_plain have profile p row high wide start)) in
     record {
-      ops = added.ops ∙ ap (λ o. o ++ Move row 0 ∷ []) (items ∙ first);
+      keeps = added.keeps ∙ keeps;
+      ops = added.ops keeps ∙ ap (λ o. o ++ Move row 0 ∷ []) (items ∙ first);
       bytes = omega (arith, more, paid, bytes);
       spot_is = added.spot_is;
       pen_is = added.pen_is ∙ is;
@@ -293,6 +299,7 @@ pub begun_right : RunLaws → ProfilesHave → (profile : ProfileView) → IsPro
 begun_right laws have profile p picture fits memory row high wide new begun start agrees =
     let next : TerminalState = plain (at_place start (row, 0)) in
     record {
+      keeps = begun.keeps;
       own = Move row 0 ∷ [];
       ops = begun.ops;
       now = next;
@@ -333,6 +340,7 @@ knows_begun laws have memories profile p memory may row high wide new begun =
     let state : (all_followed profile new.ops.items memory).state ≡ now = ap (λ (m : MemoryView). m.state) same ∙ memories.state profile memory now begins run in
     let learnt = learnt_by (is_there profile Sgr0) refl run in
     record {
+      keeps = begun.keeps;
       may = subst (MayBe (abilities profile)) (sym same) (memories.stays_possible profile p memory begins may);
       known_spot = ap (λ (m : MemoryView). m.known_spot) same ∙ learnt.0;
       known_pen = ap (λ (m : MemoryView). m.known_pen) same ∙ learnt.1;
@@ -520,6 +528,7 @@ partly_done run_laws have laws profile p picture fits memory runs found old mid 
       let known : is_known m ≡ true = (λ i. rows i && here.known_spot i && here.known_pen i) in
       let right : IsRight profile picture mid.bytes mid.ops.items m.state (in_runs []) new =
       painted mid.bytes mid.ops.items m.state (record {
+        keeps = here.keeps;
         own = [];
         ops = sym (append-nil mid.ops.items);
         now = m.state;

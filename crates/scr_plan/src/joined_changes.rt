@@ -9,12 +9,12 @@ ghost use Rattle.scr_plan.specs.Repaints.{cleared, differs, joined_places};
 ghost use Rattle.scr_plan.specs.Scratch.{places_cursor, resets, row_places};
 ghost use Rattle.scr_plan.specs.Code.Scenes.{IsScene, IsUpdate};
 
-use crate::joining::Joining;
 use crate::scenes::{Scene, Update};
+use crate::strokes::Draft;
 use scr_cells::NoMemory;
 use scr_term::run_laws;
 
-impl Joining {
+impl Draft {
     // Adds what paints each place that differs from what is known of it, then what places the
     // cursor. It goes by the rows that are marked, since no other differs, and stops early once
     // there are more bytes than the limit, if there is one.

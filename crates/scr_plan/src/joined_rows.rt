@@ -15,14 +15,14 @@ ghost use Rattle.scr_plan.specs.Repaints.{differs};
 ghost use Rattle.scr_plan.specs.Scratch.{row_places};
 ghost use Rattle.scr_plan.specs.Code.Scenes.{IsLine, IsScene};
 
-use crate::joining::{Joining, spot_after};
 use crate::looking::{is_shown_in, is_that_pen};
 use crate::scenes::{Line, Scene};
+use crate::strokes::Draft;
 use scr_cells::{Look, NoMemory, Pen};
 use scr_prices::Target;
 use scr_term::{profiles_have, run_laws};
 
-impl Joining {
+impl Draft {
     // Adds what paints the places of a row that differ from what it shows: `before`, or blanks.
     // Only columns `from..end` can differ.
     pub(crate) fn join_row(
@@ -50,7 +50,7 @@ impl Joining {
         match scene.erased_column(line, from, end) {
             Some(column) => {
                 let left = self.join_part(scene, line, from, column)?;
-                self.erase_from(scene, row, column, left)
+                self.join_rest(scene, row, column, left)
             }
             None => {
                 let _left = self.join_part(scene, line, from, end)?;
@@ -117,7 +117,7 @@ impl Joining {
             return Ok((next, None));
         }
         if self.keeps {
-            self.write(
+            self.join_write(
                 scene,
                 &Target {
                     row: line.row,
@@ -165,7 +165,7 @@ impl Joining {
         let size = scene.profile.size();
         let _picture = scene.picture.size();
         let next = scene.unlike_end(line, column, end);
-        self.begin_unless(
+        self.join_begin_unless(
             scene,
             &Target {
                 row: line.row,
@@ -174,23 +174,13 @@ impl Joining {
             },
             left,
         )?;
-        self.count_each(line.row, column, next, size.columns);
+        self.put_each(scene, line.row, column, next)?;
         Ok(next)
-    }
-
-    // Counts the characters of a row from the cursor's column to `end`.
-    fn count_each(&mut self, row: u32, column: u32, end: u32, columns: u32)
-        requires column { column < end }
-        requires end { end ≤ 500 }
-        ensures { self.new ≡ record self.old { bytes = counted_up (self.old.bytes + (end - column)); spot = spot_after columns row (end - 1) } }
-    {
-        self.bytes = self.bytes.saturating_add((end - column) as usize);
-        self.spot = spot_after(row, end - 1, columns);
     }
 
     // Adds the character of a place, after what leads there with its pen, unless the place before
     // it was painted with that pen.
-    fn write(
+    fn join_write(
         &mut self,
         scene: &Scene<'_>,
         to: &Target,
@@ -206,13 +196,13 @@ impl Joining {
         ensures all { OnOk result (Continues scene.now.profile.now self.old self.new (painter_writes scene.now.painter left (to.now.row, to.now.column) (record { byte = byte; pen = to.now.pen }))) }
         ensures after { OnOk result (IsAfter scene.now.picture.now.columns self.new to.now.row (to.now.column + 1) (Some to.now.pen)) }
     {
-        self.begin_unless(scene, to, left)?;
+        self.join_begin_unless(scene, to, left)?;
         self.put(scene.profile, to.row, to.column, byte)
     }
 
     // Adds what leads to a place with the pen that is seen there, unless the place before it was
     // painted with that pen.
-    fn begin_unless(
+    fn join_begin_unless(
         &mut self,
         scene: &Scene<'_>,
         to: &Target,
@@ -224,18 +214,19 @@ impl Joining {
         requires pen { to.now.pen ≡ (painter_look scene.now.painter scene.now.picture.now (to.now.row, to.now.column)).pen }
         requires after { IsAfter scene.now.picture.now.columns self.old to.now.row to.now.column left }
         ensures all { OnOk result (Continues scene.now.profile.now self.old self.new (if is_that_pen left to.now.pen then [] else painter_begins scene.now.painter (to.now.row, to.now.column) to.now.pen)) }
+        ensures keeps { OnOk result (self.new.keeps ≡ self.old.keeps) }
         ensures spot { OnOk result (self.new.spot ≡ At to.now.row to.now.column) }
         ensures pen { OnOk result (self.new.pen ≡ to.now.pen) }
     {
         if is_that_pen(left, to.pen) {
             return Ok(());
         }
-        self.begin(scene, to)
+        self.join_begin(scene, to)
     }
 
     // Erases a row from a column on, where it is seen blank, after what leads there with a plain
     // pen, unless the place before was painted with a plain pen.
-    fn erase_from(
+    fn join_rest(
         &mut self,
         scene: &Scene<'_>,
         row: u32,
@@ -250,7 +241,7 @@ impl Joining {
         requires after { IsAfter scene.now.picture.now.columns self.old row column left }
         ensures { OnOk result (Continues scene.now.profile.now self.old self.new ((if is_that_pen left blank.pen then [] else painter_begins scene.now.painter (row, column) blank.pen) ++ EraseLine ∷ [])) }
     {
-        self.begin_unless(
+        self.join_begin_unless(
             scene,
             &Target {
                 row,

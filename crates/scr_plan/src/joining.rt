@@ -16,30 +16,20 @@ ghost use Rattle.scr_plan.specs.Scratch.{look_at, places_cursor, resets};
 ghost use Rattle.scr_plan.specs.Code.Scenes.{IsScene};
 
 use crate::scenes::Scene;
+use crate::strokes::Draft;
 use scr_cells::{NoMemory, Pen};
 use scr_memory::Memory;
 use scr_prices::Target;
 use scr_term::{Op, Profile, Spot, blank_laws, profiles_have, run_laws};
 
-// A joined repaint that is being made: where it leads so far, how many bytes it has, and its
-// operations if they are kept.
-#[derive(Drop)]
-pub(crate) struct Joining {
-    pub(crate) ops: Vec<Op>,
-    pub(crate) keeps: bool,
-    pub(crate) bytes: usize,
-    pub(crate) spot: Spot,
-    pub(crate) pen: Pen,
-}
-
-impl Joining {
+impl Draft {
     // An empty repaint, for a terminal that the operations made before have cleared.
-    pub(crate) fn on_blanks(profile: &Profile, ops: Vec<Op>, keeps: bool) -> Joining
+    pub(crate) fn on_blanks(profile: &Profile, ops: Vec<Op>, keeps: bool) -> Draft
         ensures { IsJoining profile.now keeps ops.items (blank_state profile.now.rows profile.now.columns) [] result }
     {
         blank_laws();
         let _size = profile.size();
-        Joining {
+        Draft {
             ops,
             keeps,
             bytes: 0,
@@ -55,7 +45,7 @@ impl Joining {
         memory: &Memory,
         ops: Vec<Op>,
         keeps: bool,
-    ) -> Result<Joining, NoMemory>
+    ) -> Result<Draft, NoMemory>
         requires scene { IsScene scene.now }
         requires rows { memory.now.rows ≡ scene.now.profile.now.rows }
         requires columns { memory.now.columns ≡ scene.now.profile.now.columns }
@@ -72,28 +62,13 @@ impl Joining {
             .painter
             .reset_unless_plain(memory.remembered_pen(), &mut ops)?;
         let bytes = price_of(scene.profile, &ops[begun..]);
-        Ok(Joining {
+        Ok(Draft {
             ops,
             keeps,
             bytes,
             spot: memory.remembered_spot(),
             pen: Pen::plain(),
         })
-    }
-
-    // Counts the operations from index `begun` on, which lead to this spot and pen, and drops them
-    // unless they are kept.
-    fn count(&mut self, profile: &Profile, begun: usize, spot: Spot, pen: Pen)
-        requires { begun ≤ length self.old.ops.items }
-        ensures { IsCounted profile.now self.old self.new begun spot pen }
-    {
-        let price = price_of(profile, &self.ops[begun..]);
-        self.bytes = self.bytes.saturating_add(price);
-        if !self.keeps {
-            self.ops.truncate(begun);
-        }
-        self.spot = spot;
-        self.pen = pen;
     }
 
     // Turns attributes off and makes colours default.
@@ -112,11 +87,12 @@ impl Joining {
     }
 
     // Leads to a place, and to the pen with which the picture is seen there.
-    pub(crate) fn begin(&mut self, scene: &Scene<'_>, to: &Target) -> Result<(), NoMemory>
+    pub(crate) fn join_begin(&mut self, scene: &Scene<'_>, to: &Target) -> Result<(), NoMemory>
         requires scene { IsScene scene.now }
         requires place { IsPlace scene.now.profile.now.rows scene.now.profile.now.columns (to.now.row, to.now.column) }
         requires pen { to.now.pen ≡ (look_at scene.now.profile.now scene.now.picture.now (to.now.row, to.now.column)).pen }
         ensures all { OnOk result (Continues scene.now.profile.now self.old self.new (painter_begins scene.now.painter (to.now.row, to.now.column) to.now.pen)) }
+        ensures keeps { OnOk result (self.new.keeps ≡ self.old.keeps) }
         ensures spot { OnOk result (self.new.spot ≡ At to.now.row to.now.column) }
         ensures pen { OnOk result (self.new.pen ≡ to.now.pen) }
     {
@@ -151,20 +127,6 @@ impl Joining {
         self.keep(Op::Put(byte))?;
         self.bytes = self.bytes.saturating_add(1);
         self.spot = spot_after(row, column, size.columns);
-        Ok(())
-    }
-
-    // Keeps an operation if that is asked for.
-    #[inline(always)]
-    fn keep(&mut self, op: Op) -> Result<(), NoMemory>
-        ensures ops { OnOk result (self.old.keeps ≡ true → self.new.ops.items ≡ self.old.ops.items ++ op ∷ []) }
-        ensures keeps { OnOk result (self.new.keeps ≡ self.old.keeps) }
-        ensures bytes { OnOk result (self.new.bytes ≡ self.old.bytes) }
-        ensures pen { OnOk result (self.new.pen ≡ self.old.pen) }
-    {
-        if self.keeps {
-            self.ops.push(op)?;
-        }
         Ok(())
     }
 

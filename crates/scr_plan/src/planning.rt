@@ -15,12 +15,13 @@ ghost use Rattle.scr_plan.specs.Repaints.{IsSizeOf, IsUpToDate, ShowsOutside, an
 ghost use Rattle.scr_plan.specs.Scratch.{Fits};
 ghost use Rattle.scr_plan.specs.Code.Scenes.{IsScene, IsUpdate};
 
-use crate::joining::{Joining, price_of};
+use crate::joining::price_of;
 use crate::looked::Looked;
 use crate::painting::Painter;
 use crate::plan_laws::{joined_is_cheap, plans_are_made, plans_are_remembered};
 use crate::scenes::{Scene, Update};
 use crate::short_plan::{short_anew, short_changes};
+use crate::strokes::Draft;
 use crate::unknown_rows::short_partly;
 use scr_cells::{Look, NoMemory, Pen, Size, grid_laws};
 use scr_memory::{Memory, known_memories, memory_runs};
@@ -222,7 +223,7 @@ fn bytes_anew(alloc: Global, scene: &Scene<'_>) -> Result<usize, NoMemory>
     requires scene { IsScene scene.now }
     ensures { IfOk result (λ bytes. bytes ≡ counted_up (length (all_bytes scene.now.profile.now (painted_anew scene.now.profile.now scene.now.picture.now)))) }
 {
-    let mut joining = Joining::on_blanks(scene.profile, Vec::new(alloc), false);
+    let mut joining = Draft::on_blanks(scene.profile, Vec::new(alloc), false);
     joining.join_all(scene)?;
     Ok(joining.bytes)
 }
@@ -235,7 +236,7 @@ fn joined_anew(alloc: Global, scene: &Scene<'_>) -> Result<Ops, NoMemory>
     let mut ops = Vec::with_capacity(alloc, room_of(scene.picture.size()))?;
     scene.painter.reset(&mut ops)?;
     ops.push(Op::Clear)?;
-    let mut joining = Joining::on_blanks(scene.profile, ops, true);
+    let mut joining = Draft::on_blanks(scene.profile, ops, true);
     joining.join_all(scene)?;
     Ok(Ops(joining.ops))
 }
@@ -299,7 +300,7 @@ fn bytes_of_joined(
     ensures { IfOk result (λ bytes. bytes ≤ counted_up (length (all_bytes update.now.scene.profile.now (joined_of update.now.scene.profile.now update.now.memory.now update.now.wanted.now.picture)))) }
 {
     let ops = Vec::with_capacity(alloc, FEW_OPERATIONS)?;
-    let mut joining = Joining::on_remembered(&update.scene, update.memory, ops, false)?;
+    let mut joining = Draft::on_remembered(&update.scene, update.memory, ops, false)?;
     joining.join_changes(update, rows, Some(limit))?;
     Ok(joining.bytes)
 }
@@ -316,7 +317,7 @@ fn joined(alloc: Global, update: &Update<'_>, rows: &[bool]) -> Result<Ops, NoMe
     ensures { IfOk result (λ ops. ops ≡ joined_of update.now.scene.profile.now update.now.memory.now update.now.wanted.now.picture) }
 {
     let ops = Vec::with_capacity(alloc, room_of(update.wanted.size()))?;
-    let mut joining = Joining::on_remembered(&update.scene, update.memory, ops, true)?;
+    let mut joining = Draft::on_remembered(&update.scene, update.memory, ops, true)?;
     joining.join_changes(update, rows, None)?;
     Ok(Ops(joining.ops))
 }

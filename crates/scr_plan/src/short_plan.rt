@@ -36,6 +36,7 @@ pub(crate) fn short_changes(
     let mut runs = runs;
     let mut draft = Draft {
         ops: Vec::new(alloc),
+        keeps: true,
         bytes: 0,
         spot: update.memory.remembered_spot(),
         pen: update.memory.remembered_pen(),
@@ -62,6 +63,7 @@ pub(crate) fn short_anew(alloc: Global, scene: &Scene<'_>) -> Result<Draft, NoMe
     ops.push(Op::Clear)?;
     let mut draft = Draft {
         ops,
+        keeps: true,
         bytes: 0,
         spot: Spot::At(0, 0),
         pen: Pen::plain(),
@@ -74,6 +76,7 @@ impl Draft {
     // Makes room for the operations of runs.
     fn make_room(&mut self, runs: &[Run]) -> Result<(), NoMemory>
         ensures ops { OnOk result (self.new.ops.items ≡ self.old.ops.items) }
+        ensures keeps { OnOk result (self.new.keeps ≡ self.old.keeps) }
         ensures bytes { OnOk result (self.new.bytes ≡ self.old.bytes) }
         ensures spot { OnOk result (self.new.spot ≡ self.old.spot) }
         ensures pen { OnOk result (self.new.pen ≡ self.old.pen) }

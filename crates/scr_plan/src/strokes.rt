@@ -1,9 +1,11 @@
 //! The short plan, stroke by stroke. Each stroke looks before it acts, so that earlier choices can
 //! make a plan longer but never wrong.
-ghost use Rattle.std.specs.Prelude.{ℕ, ◌≡◌, ◌<◌, ◌≤◌, ◌∷◌, [], IfOk, OnOk, length, true};
+ghost use Rattle.std.specs.Prelude.{ℕ, ◌≡◌, ◌+◌, ◌-◌, ◌<◌, ◌≤◌, ◌++◌, ◌∷◌, [], IfOk, OnOk, false, length, true};
 ghost use Rattle.scr_term.specs.declared.operations.operation.Spot.TheVariants.{At};
 ghost use Rattle.scr_term.specs.Operations.Texts.{all_bytes, has};
-ghost use Rattle.scr_plan.specs.Code.Drafts.{Covers, IsAdded, IsPaid, KeepsAll, KeepsEvery, in_part};
+ghost use Rattle.scr_plan.specs.Code.Drafts.{Covers, IsAdded, IsPut, KeepsAll, KeepsEvery, in_part};
+ghost use Rattle.scr_plan.specs.Code.Joinings.{IsCounted, counted_up};
+ghost use Rattle.scr_term.specs.Operations.States.{spot_after};
 ghost use Rattle.scr_plan.specs.Code.Painters.{painter_begins, painter_look};
 ghost use Rattle.scr_plan.specs.Code.Scenes.{IsScene};
 
@@ -15,10 +17,12 @@ use scr_prices::{Cursor, Target};
 use scr_term::{Op, Profile, Spot, profiles_have, run_laws};
 use scr_terminal::{moved_by, turned};
 
-// A plan in the making: its operations, how many bytes they have, and where they lead.
+// A plan in the making: its operations if they are kept, how many bytes they have, and where they
+// lead.
 #[derive(Drop)]
 pub(crate) struct Draft {
     pub(crate) ops: Vec<Op>,
+    pub(crate) keeps: bool,
     pub(crate) bytes: usize,
     pub(crate) spot: Spot,
     pub(crate) pen: Pen,
@@ -51,7 +55,7 @@ impl Draft {
         ensures { OnOk result (IsAdded profile.now self.old self.new (op ∷ []) to.now.spot to.now.pen) }
     {
         let _size = profile.size();
-        self.ops.push(op)?;
+        self.keep(op)?;
         self.bytes = self.bytes.saturating_add(price);
         self.spot = to.spot;
         self.pen = to.pen;
@@ -141,7 +145,7 @@ impl Draft {
 
     // Adds the characters of a row from the cursor's column to `end`, all of which are seen with
     // the current pen.
-    fn put_each(
+    pub(crate) fn put_each(
         &mut self,
         scene: &Scene<'_>,
         row: u32,
@@ -154,12 +158,38 @@ impl Draft {
         requires end { end ≤ scene.now.picture.now.columns }
         requires spot { self.old.spot ≡ At row column }
         requires pen { (c : ℕ) → column ≤ c → c < end → self.old.pen ≡ (painter_look scene.now.painter scene.now.picture.now (row, c)).pen }
-        ensures { OnOk result (Covers scene.now.profile.now scene.now.picture.now (in_part row column end) self.old self.new) }
+        ensures covers { OnOk result (Covers scene.now.profile.now scene.now.picture.now (in_part row column end) self.old self.new) }
+        ensures counts { OnOk result (self.old.keeps ≡ false → self.new ≡ record self.old { bytes = counted_up (self.old.bytes + (end - column)); spot = spot_after scene.now.profile.now.columns row (end - 1) }) }
+    {
+        let size = scene.profile.size();
+        if self.keeps {
+            self.push_each(scene, row, column, end)?;
+        }
+        self.bytes = self.bytes.saturating_add((end - column) as usize);
+        self.spot = spot_after(row, end - 1, size.columns);
+        Ok(())
+    }
+
+    // Keeps these characters, which are not counted yet.
+    fn push_each(
+        &mut self,
+        scene: &Scene<'_>,
+        row: u32,
+        column: u32,
+        end: u32,
+    ) -> Result<(), NoMemory>
+        requires scene { IsScene scene.now }
+        requires row { row < scene.now.picture.now.rows }
+        requires column { column < end }
+        requires end { end ≤ scene.now.picture.now.columns }
+        requires spot { self.old.spot ≡ At row column }
+        requires pen { (c : ℕ) → column ≤ c → c < end → self.old.pen ≡ (painter_look scene.now.painter scene.now.picture.now (row, c)).pen }
+        ensures { OnOk result (IsPut scene.now.profile.now scene.now.picture.now row column end self.old self.new) }
     {
         run_laws();
         profiles_have();
         grid_laws::<Look>();
-        let size = scene.profile.size();
+        let _size = scene.profile.size();
         let _picture = scene.picture.size();
         let cells = scene.picture.row(row);
         self.ops.reserve((end - column) as usize)?;
@@ -167,8 +197,6 @@ impl Draft {
             self.ops
                 .push_reserved(Op::Put(cell_in(cells, place).byte()));
         }
-        self.bytes = self.bytes.saturating_add((end - column) as usize);
-        self.spot = spot_after(row, end - 1, size.columns);
         Ok(())
     }
 
@@ -218,15 +246,33 @@ impl Draft {
         Ok(())
     }
 
-    // Counts the operations from index `begun` on, which lead to this spot and pen.
-    fn count(&mut self, profile: &Profile, begun: usize, spot: Spot, pen: Pen)
+    // Counts the operations from index `begun` on, which lead to this spot and pen, and drops them
+    // unless they are kept.
+    pub(crate) fn count(&mut self, profile: &Profile, begun: usize, spot: Spot, pen: Pen)
         requires { begun ≤ length self.old.ops.items }
-        ensures { IsPaid profile.now self.old self.new begun spot pen }
+        ensures { IsCounted profile.now self.old self.new begun spot pen }
     {
         let price = price_of(profile, &self.ops[begun..]);
         self.bytes = self.bytes.saturating_add(price);
+        if !self.keeps {
+            self.ops.truncate(begun);
+        }
         self.spot = spot;
         self.pen = pen;
+    }
+
+    // Keeps an operation if that is asked for.
+    #[inline(always)]
+    pub(crate) fn keep(&mut self, op: Op) -> Result<(), NoMemory>
+        ensures ops { OnOk result (self.old.keeps ≡ true → self.new.ops.items ≡ self.old.ops.items ++ op ∷ []) }
+        ensures keeps { OnOk result (self.new.keeps ≡ self.old.keeps) }
+        ensures bytes { OnOk result (self.new.bytes ≡ self.old.bytes) }
+        ensures pen { OnOk result (self.new.pen ≡ self.old.pen) }
+    {
+        if self.keeps {
+            self.ops.push(op)?;
+        }
+        Ok(())
     }
 
     // Where the cursor is, and its pen.

@@ -58,6 +58,7 @@ fn begun(alloc: Global, scene: &Scene<'_>, memory: &Memory) -> Result<Draft, NoM
     let mut draft = Draft {
         bytes: price_of(scene.profile, &ops),
         ops,
+        keeps: true,
         spot: Spot::At(0, 0),
         pen: Pen::plain(),
     };

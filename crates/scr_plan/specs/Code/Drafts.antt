@@ -1,5 +1,5 @@
 -- Making a short plan, operation by operation.
-use Rattle.std.specs.Prelude.{ℕ, ◌≡◌, ◌+◌, ◌<◌, ◌≤◌, ◌==◌, ◌&&◌, ◌||◌, not, leb, ltb, Bool, true, false, List, [], ◌++◌, All, IfSome, drop, length, Option, Some, None, if◌then◌else◌}
+use Rattle.std.specs.Prelude.{ℕ, ◌≡◌, ◌+◌, ◌-◌, nat_lt, ◌<◌, ◌≤◌, ◌==◌, ◌&&◌, ◌||◌, not, leb, ltb, Bool, true, false, List, [], ◌++◌, All, IfSome, length, Option, Some, None, if◌then◌else◌}
 use Rattle.std.specs.List.{list_all, list_any}
 use Rattle.scr_cells.specs.Grids.{grid_at, is_in_run}
 use Rattle.scr_cells.specs.LookViews.{LookView, blank}
@@ -7,7 +7,7 @@ use Rattle.scr_cells.specs.PenViews.{PenView, plain_pen}
 use Rattle.scr_cells.specs.PictureViews.{PictureView}
 use Rattle.scr_term.specs.declared.operations.operation.Op.{Op}
 use Rattle.scr_term.specs.declared.operations.operation.Spot.{Spot}
-use Rattle.scr_term.specs.declared.operations.operation.Spot.TheVariants.{At}
+use Rattle.scr_term.specs.declared.operations.operation.Spot.TheVariants.{At, Margin}
 use Rattle.scr_term.specs.Operations.Profiles.{ProfileView, abilities}
 use Rattle.scr_term.specs.Operations.States.{TerminalState, IsState}
 use Rattle.scr_term.specs.Operations.Steps.{runs}
@@ -39,6 +39,7 @@ aim_of profile picture = record { rows = picture.rows; columns = picture.columns
 -- After the first ones, a draft's operations move no row, and they lead from this state to one with the draft's spot and pen, in which every
 -- place that does not wait shows what is aimed at; their bytes are counted beside so many others.
 pub record IsAimed (profile : ProfileView) (aim : Aim) (paid : ℕ) (first : List Op) (start : TerminalState) (waits : ℕ × ℕ → Bool) (draft : Draft) : Type 0 where
+  pub keeps : draft.keeps ≡ true
   pub own : List Op
   pub ops : draft.ops.items ≡ first ++ own
   pub now : TerminalState
@@ -54,17 +55,11 @@ pub record IsAimed (profile : ProfileView) (aim : Aim) (paid : ℕ) (first : Lis
 abbrev pub IsRight : ProfileView → PictureView → ℕ → List Op → TerminalState → (ℕ × ℕ → Bool) → Draft → Type 0
 IsRight profile picture paid first start waits draft = IsAimed profile (aim_of profile picture) paid first start waits draft
 
--- a draft with these operations more, counted, and with this spot and this pen
+-- a draft with these operations more, kept where that is asked for, and counted, and with this spot and this pen
 pub record IsAdded (profile : ProfileView) (old new : Draft) (more : List Op) (spot : Spot) (pen : PenView) : Type 0 where
-  pub ops : new.ops.items ≡ old.ops.items ++ more
+  pub keeps : new.keeps ≡ old.keeps
+  pub ops : old.keeps ≡ true → new.ops.items ≡ old.ops.items ++ more
   pub bytes : All (λ op. has profile op ≡ true) more → new.bytes ≡ counted_up (old.bytes + length (all_bytes profile more))
-  pub spot_is : new.spot ≡ spot
-  pub pen_is : new.pen ≡ pen
-
--- the operations from one on are counted; they lead to this spot and this pen
-pub record IsPaid (profile : ProfileView) (old new : Draft) (begun : ℕ) (spot : Spot) (pen : PenView) : Type 0 where
-  pub bytes : All (λ op. has profile op ≡ true) (drop begun old.ops.items) → new.bytes ≡ counted_up (old.bytes + length (all_bytes profile (drop begun old.ops.items)))
-  pub ops : new.ops.items ≡ old.ops.items
   pub spot_is : new.spot ≡ spot
   pub pen_is : new.pen ≡ pen
 
@@ -93,6 +88,24 @@ Covers profile picture covers old new = (waits : ℕ × ℕ → Bool) → Keeps 
 abbrev pub in_part : ℕ → ℕ → ℕ → ℕ × ℕ → Bool
 in_part row from end place = is_in_run row from end place.0 place.1
 
+-- a draft after characters of a row from one column up to another, when they are counted
+abbrev pub behind_them : ℕ → ℕ → ℕ → ℕ → Draft → Draft → Draft
+behind_them columns row column place old now = record {
+  ops = now.ops;
+  keeps = old.keeps;
+  bytes = counted_up (old.bytes + (place - column));
+  spot = if nat_lt place columns then At row place else Margin row;
+  pen = old.pen;
+}
+
+-- characters were added, and are not counted yet
+pub record IsPut (profile : ProfileView) (picture : PictureView) (row column place : ℕ) (old now : Draft) : Type 0 where
+  pub keeps : now.keeps ≡ old.keeps
+  pub bytes : now.bytes ≡ old.bytes
+  pub spot : now.spot ≡ old.spot
+  pub pen : now.pen ≡ old.pen
+  pub covers : Covers profile picture (in_part row column place) old (behind_them profile.columns row column place old now)
+
 -- ---- runs that wait
 
 -- a place is in a run, and in one of some runs
@@ -110,10 +123,7 @@ no_run = record { row = 0; start = 0; end = 0; pen = plain_pen; how = Write }
 abbrev pub KeepsRuns : List Run → List Run → Type 0
 KeepsRuns old new = (place : ℕ × ℕ) → in_runs old place ≡ true → in_runs new place ≡ true
 
--- every place of a part of a row is in a run; every one that differs is
-abbrev pub HasPart : ℕ → ℕ → ℕ → List Run → Type 0
-HasPart row from end runs = (c : ℕ) → from ≤ c → c < end → in_runs runs (row, c) ≡ true
-
+-- every place of a part of a row that differs is in a run
 abbrev pub HasDiffering : Painter → PictureView → ℕ → Option (List LookView) → ℕ → ℕ → List Run → Type 0
 HasDiffering painter picture row before from end runs =
     (c : ℕ) → from ≤ c → c < end → row_differs painter picture before (row, c) ≡ true → in_runs runs (row, c) ≡ true
@@ -181,6 +191,7 @@ RightFrom profile picture memory waits draft = (old : TerminalState) → Agrees 
 
 -- After the draft's operations this is remembered: the cursor's spot and the pen are known to be the draft's, and so are these rows.
 pub record Knows (profile : ProfileView) (memory : MemoryView) (known : ℕ → Bool) (draft : Draft) : Type 0 where
+  pub keeps : draft.keeps ≡ true
   pub may : MayBe (abilities profile) (all_followed profile draft.ops.items memory)
   pub known_spot : (all_followed profile draft.ops.items memory).known_spot ≡ true
   pub known_pen : (all_followed profile draft.ops.items memory).known_pen ≡ true

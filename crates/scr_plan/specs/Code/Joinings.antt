@@ -13,7 +13,7 @@ use Rattle.scr_term.specs.Operations.Texts.{all_bytes, has}
 use Rattle.scr_plan.specs.Code.Painters.{shown_in}
 use Rattle.scr_memory.specs.Memories.{MemoryView, is_known_row}
 use Rattle.scr_plan.specs.Repaints.{erased_column, joined_place, look_in, without_idle}
-use Rattle.scr_plan.specs.declared.joining.Joining.{Joining}
+use Rattle.scr_plan.specs.declared.strokes.Draft.{Draft}
 
 -- a row is known to show these looks
 pub record ShowsRow (memory : MemoryView) (row : ℕ) (before : Option (List LookView)) : Type 0 where
@@ -26,7 +26,7 @@ counted_up n = min n (2 ^ 64 - 1)
 
 -- From this state these operations lead to one with this spot and this pen; counted and, where they are kept, kept after the first ones are
 -- those of them that change something.
-pub record IsJoining (profile : ProfileView) (stores : Bool) (first : List Op) (start : TerminalState) (all : List Op) (joining : Joining) : Type 0 where
+pub record IsJoining (profile : ProfileView) (stores : Bool) (first : List Op) (start : TerminalState) (all : List Op) (joining : Draft) : Type 0 where
   pub now : TerminalState
   pub run : runs profile start all ≡ Some now
   pub state : IsState (abilities profile) now
@@ -37,16 +37,16 @@ pub record IsJoining (profile : ProfileView) (stores : Bool) (first : List Op) (
   pub ops : stores ≡ true → joining.ops.items ≡ first ++ without_idle profile start all
 
 -- these operations more, from wherever the others came
-abbrev pub Continues : ProfileView → Joining → Joining → List Op → Type 0
+abbrev pub Continues : ProfileView → Draft → Draft → List Op → Type 0
 Continues profile old new more = (stores : Bool) (first : List Op) (start : TerminalState) (all : List Op) → IsJoining profile stores first start all old → IsJoining profile stores first start (all ++ more) new
 
 -- no more is counted than what these operations more would be counted with, from wherever the others came
-abbrev pub CountsAtMost : ProfileView → Joining → Joining → List Op → Type 0
+abbrev pub CountsAtMost : ProfileView → Draft → Draft → List Op → Type 0
 CountsAtMost profile old new more = (stores : Bool) (first : List Op) (start : TerminalState) (all : List Op) → IsJoining profile stores first start all old
     → new.bytes ≤ counted_up (length (all_bytes profile (without_idle profile start (all ++ more))))
 
 -- the operations from one on are counted, and kept where that is asked for; they lead to this spot and this pen
-pub record IsCounted (profile : ProfileView) (old new : Joining) (begun : ℕ) (spot : Spot) (pen : PenView) : Type 0 where
+pub record IsCounted (profile : ProfileView) (old new : Draft) (begun : ℕ) (spot : Spot) (pen : PenView) : Type 0 where
   pub bytes : All (λ op. has profile op ≡ true) (drop begun old.ops.items) → new.bytes ≡ counted_up (old.bytes + length (all_bytes profile (drop begun old.ops.items)))
   pub keeps : new.keeps ≡ old.keeps
   pub ops : old.keeps ≡ true → new.ops.items ≡ old.ops.items
@@ -54,7 +54,7 @@ pub record IsCounted (profile : ProfileView) (old new : Joining) (begun : ℕ) (
   pub pen_is : new.pen ≡ pen
 
 -- after a place that was painted the cursor is in the next one, and the pen is still on
-abbrev pub IsAfter : ℕ → Joining → ℕ → ℕ → Option PenView → Type 0
+abbrev pub IsAfter : ℕ → Draft → ℕ → ℕ → Option PenView → Type 0
 IsAfter columns joining row column None = Unit {0}
 IsAfter columns joining row column (Some pen) = (joining.pen ≡ pen) × (column < columns → joining.spot ≡ At row column)
 

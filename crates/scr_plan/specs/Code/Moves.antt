@@ -1,5 +1,5 @@
 -- Shifts of rows, and slides of a row's characters.
-use Rattle.std.specs.Prelude.{ℕ, ◌≡◌, ◌+◌, ◌<◌, ◌≤◌, Bool, List, [], length, Option, Some, None, IfSome, if◌then◌else◌}
+use Rattle.std.specs.Prelude.{ℕ, ◌≡◌, ◌+◌, ◌<◌, ◌≤◌, Bool, true, List, [], length, Option, Some, None, IfSome, if◌then◌else◌}
 use Rattle.scr_cells.specs.Grids.{grid_at, grid_of, rows_down, rows_up}
 use Rattle.scr_cells.specs.LookViews.{LookView, blank}
 use Rattle.scr_cells.specs.PictureViews.{PictureView}
@@ -37,6 +37,7 @@ shown_at (Some shift) at r c = shifted_at shift at r c
 
 -- all operations of a draft lead from this state to one that shows this grid, with the draft's spot and pen; their bytes are counted
 pub record IsSent (profile : ProfileView) (start : TerminalState) (grid : List (List LookView)) (draft : Draft) : Type 0 where
+  pub keeps : draft.keeps ≡ true
   pub now : TerminalState
   pub run : runs profile start draft.ops.items ≡ Some now
   pub state : IsState (abilities profile) now
@@ -52,6 +53,7 @@ Sends profile move old new =
 
 -- a draft without operations, at what is remembered of the cursor and the pen
 pub record IsBegun (memory : MemoryView) (draft : Draft) : Type 0 where
+  pub keeps : draft.keeps ≡ true
   pub ops : draft.ops.items ≡ []
   pub bytes : draft.bytes ≡ 0
   pub spot : draft.spot ≡ memory.state.spot

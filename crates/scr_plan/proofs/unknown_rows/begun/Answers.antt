@@ -17,7 +17,7 @@ begun_of c start is =
     let priced : All (λ op. has profile op ≡ true) c.reset.new.ops.items → c.price_of.result ≡ counted_up (length (all_bytes profile c.reset.new.ops.items)) =
     subst (λ ops. All (λ op. has profile op ≡ true) ops → c.price_of.result ≡ counted_up (length (all_bytes profile ops))) c.deref.ensures.value c.price_of.ensures in
     begun_is c.run_laws.ensures c.profiles_have.ensures profile p c.args.scene.now.painter c.requires.scene.painter c.first_unknown-row.result row p.size.some_columns c.reset.new.ops.items
-    made c.price_of.result priced start is _ c.add.new.self refl refl c.plain-2.result c.plain-2.ensures c.in_ok-add.ensures
+    made c.price_of.result priced start is _ c.add.new.self refl refl refl c.plain-2.result c.plain-2.ensures c.in_ok-add.ensures
 
 pub returns-clause-right : goal.returns-clause-right
 returns-clause-right c =

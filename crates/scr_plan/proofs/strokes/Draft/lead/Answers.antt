@@ -8,4 +8,4 @@ pub returns : goal.returns
 returns c =
     let goes = painter_goes c.args.scene.now.painter (c.args.to.now.row, c.args.to.now.column) in
     counted c.args.scene.now.profile.now c.args.self.now _ c.count.new.self c.len-begun.result _ _ _ (search rules)
-    (c.in_ok-begin.ensures ∙ append_assoc c.args.self.now.ops.items goes (renders c.args.to.now.pen)) refl c.count.ensures
+    (c.in_ok-begin.ensures ∙ append_assoc c.args.self.now.ops.items goes (renders c.args.to.now.pen)) refl refl c.count.ensures

@@ -1,34 +1,34 @@
-use Rattle.std.proofs.Common.{ap, arith, refl, subst, ◌≡◌, ◌∙◌, ◌≤◌, ◌-◌, ◌+◌}
+use Rattle.std.proofs.Common.{ap, sym, ◌∙◌, ◌+◌, ◌-◌, true, false, ◌≡◌}
 use Rattle.scr_term.specs.Operations.States.{spot_after}
 use Rattle.scr_plan.specs.Code.Joinings.{counted_up}
-use Rattle.scr_plan.proofs.DraftLaws.{IsPut, put_counted, put_more, put_none}
-use Rattle.scr_plan.proofs.LookingLaws.{look_by}
+use Rattle.scr_plan.proofs.DraftLaws.{never_kept, put_counted}
+use Rattle.scr_plan.proofs.strokes.Draft.put_each.Goals.{then-self+in_ok-push_each, else-self}
 use Rattle.scr_plan.proofs.strokes.Draft.put_each.Goals as goal
 
-pub loop-place-init : goal.loop-place-init
-loop-place-init c = record {
-  put = put_none c.args.scene.now.profile.now c.args.scene.now.picture.now c.requires.scene.fits c.args.row c.args.column (omega (arith, c.requires.column, c.requires.end)) c.args.self.now _ c.requires.spot c.in_ok-reserve.ensures.items refl refl refl;
-  room = omega (arith, c.in_ok-reserve.ensures.ok, c.in_ok-reserve.ensures.len, c.requires.column);
-}
+pub returns-clause-covers : goal.returns-clause-covers
+returns-clause-covers c =
+    let old = c.args.self.now in
+    let count = c.args.end - c.args.column in
+    elim c.if-self.branch [
+      | then-self+in_ok-push_each w ↦
+          put_counted c.args.scene.now.profile.now c.args.scene.now.picture.now c.args.row c.args.column c.args.end c.requires.column old w.push_each.new.self _ (ap (λ d. d.ops) w.self-is) (ap (λ d. d.keeps) w.self-is)
+          (c.saturating_add-self.ensures ∙ ap (λ n. counted_up (n + count)) (ap (λ d. d.bytes) w.self-is ∙ w.in_ok-push_each.ensures.bytes)) (c.spot_after-self.ensures ∙ ap (λ n. spot_after n c.args.row (c.args.end - 1)) c.size-size.ensures.columns) (ap (λ d. d.pen) w.self-is)
+          w.in_ok-push_each.ensures
+      | else-self w ↦ never_kept c.args.scene.now.profile.now c.args.scene.now.picture.now _ old _ w.if-self.false
+    ]
 
-pub push_reserved-requires : goal.push_reserved-requires
-push_reserved-requires c = omega (arith, c.loop-place.invariant.room, c.loop-place-test.true)
-
-pub loop-place-preserved : goal.loop-place-preserved
-loop-place-preserved c =
-    let low : c.args.column ≤ c.loop-place.place = c.loop-place.auto.place in
-    record {
-      put =
-          put_more c.run_laws.ensures c.profiles_have.ensures c.grid_laws.ensures c.args.scene.now.profile.now c.size-size.ensures.profile c.args.scene.now.picture.now c.size-picture.ensures.picture c.requires.scene.fits c.args.scene.now.painter c.requires.scene.painter c.args.row c.args.column c.loop-place.place
-          c.requires.row low (omega (arith, c.loop-place-test.true, c.requires.end)) c.byte.result c.args.self.now c.loop-place.self _ (c.requires.pen c.loop-place.place low c.loop-place-test.true)
-          (c.byte.ensures.value ∙ ap (λ cell. cell.byte) c.cell_in.ensures ∙ ap (λ look. look.byte) (look_by c.args.scene.now.painter c.args.scene.now.picture.now c.args.row c.loop-place.place c.row-cells.result.now c.row-cells.ensures.cells))
-          c.push_reserved.ensures.items refl refl refl c.loop-place.invariant.put;
-      room = omega (arith, c.loop-place.invariant.room, c.push_reserved.ensures.len, c.push_reserved.ensures.capacity, c.loop-place-test.true);
-    }
-
-pub returns : goal.returns
-returns c =
-    let last : c.loop-place.place ≡ c.args.end = omega (arith, c.loop-place-test.false, c.loop-place.auto.place-end (omega (arith, c.requires.column))) in
-    put_counted c.args.scene.now.profile.now c.args.scene.now.picture.now c.args.row c.args.column c.args.end c.requires.column c.args.self.now c.loop-place.self _ refl
-    (c.saturating_add-self.ensures ∙ ap (λ n. counted_up (n + (c.args.end - c.args.column))) c.loop-place.invariant.put.bytes) (c.spot_after-self.ensures ∙ ap (λ n. spot_after n c.args.row (c.args.end - 1)) c.size-size.ensures.columns) refl
-    (subst (λ n. IsPut c.args.scene.now.profile.now c.args.scene.now.picture.now c.args.row c.args.column n c.args.self.now c.loop-place.self) last c.loop-place.invariant.put)
+pub returns-clause-counts : goal.returns-clause-counts
+returns-clause-counts c counts =
+    let old = c.args.self.now in
+    let count = c.args.end - c.args.column in
+    elim c.if-self.branch [
+      | then-self+in_ok-push_each w ↦ (cc (counts, w.if-self.true))
+      | else-self w ↦
+          λ i. record {
+            ops = (w.self-is i).ops;
+            keeps = (w.self-is i).keeps;
+            bytes = (c.saturating_add-self.ensures ∙ ap (λ d. counted_up (d.bytes + count)) w.self-is) i;
+            spot = (c.spot_after-self.ensures ∙ ap (λ n. spot_after n c.args.row (c.args.end - 1)) c.size-size.ensures.columns) i;
+            pen = (w.self-is i).pen;
+          }
+    ]

@@ -1,0 +1,61 @@
+use Rattle.std.proofs.Common.{arith, option_map, rules, sym, true, false, ap, Some, ◌≡◌, ◌∙◌, ◌<◌}
+use Rattle.scr_plan.proofs.JoinLaws.{differs_by, one_and_more, painted, passed, place_shown}
+use Rattle.scr_plan.proofs.JoinedRowLaws.{byte_is, painted_goes, passed_goes}
+use Rattle.scr_plan.proofs.strokes.Draft.join_next.Goals as goal
+
+pub returns-then-is_shown_in-clause-all : goal.returns-then-is_shown_in-clause-all
+returns-then-is_shown_in-clause-all c =
+    let before = option_map (λ looks. looks.now) c.args.line.now.before in
+    let shown : c.is_shown_in.result ≡ true = search rules in
+    let more : c.args.column < c.unlike_from-next.result = omega (arith, c.unlike_from-next.ensures.from) in
+    passed_goes c.args.scene.now.profile.now c.args.scene.now.painter c.args.scene.now.picture.now before c.args.line.now.row c.args.column c.unlike_from-next.result c.args.self.now more
+    (one_and_more c.args.scene.now.painter c.args.scene.now.picture.now before c.args.line.now.row c.args.column c.unlike_from-next.result
+    (place_shown c.args.scene.now.painter c.args.scene.now.picture.now c.args.line.now.row before c.args.column c.args.line.now.cells.now c.seen_in-byte.result.0 c.seen_in-byte.result.1 c.requires.line.cells c.seen_in-byte.ensures.byte c.seen_in-byte.ensures.pen
+    (sym c.is_shown_in.ensures ∙ shown))
+    c.unlike_from-next.ensures.same)
+
+pub returns-then-is_shown_in-clause-left : goal.returns-then-is_shown_in-clause-left
+returns-then-is_shown_in-clause-left c =
+    let before = option_map (λ looks. looks.now) c.args.line.now.before in
+    let shown : c.is_shown_in.result ≡ true = search rules in
+    let more : c.args.column < c.unlike_from-next.result = omega (arith, c.unlike_from-next.ensures.from) in
+    sym (passed c.args.scene.now.painter c.args.scene.now.picture.now before c.args.line.now.row c.args.column c.unlike_from-next.result more
+    (one_and_more c.args.scene.now.painter c.args.scene.now.picture.now before c.args.line.now.row c.args.column c.unlike_from-next.result
+    (place_shown c.args.scene.now.painter c.args.scene.now.picture.now c.args.line.now.row before c.args.column c.args.line.now.cells.now c.seen_in-byte.result.0 c.seen_in-byte.result.1 c.requires.line.cells c.seen_in-byte.ensures.byte c.seen_in-byte.ensures.pen
+    (sym c.is_shown_in.ensures ∙ shown))
+    c.unlike_from-next.ensures.same)).1
+
+pub join_write-requires-clause-byte : goal.join_write-requires-clause-byte
+join_write-requires-clause-byte c = byte_is c.args.scene.now.picture.now c.size-size.ensures.picture c.args.line.now.row c.args.column c.args.line.now.cells.now c.seen_in-byte.result.0 c.requires.line.cells c.seen_in-byte.ensures.byte
+
+pub returns-then-self-clause-left : goal.returns-then-self-clause-left
+returns-then-self-clause-left c =
+    let before = option_map (λ looks. looks.now) c.args.line.now.before in
+    let unlike : c.is_shown_in.result ≡ false = search rules in
+    ap (λ pen. Some pen) (ap (λ look. look.pen) (differs_by c.args.scene.now.painter c.args.scene.now.picture.now c.args.line.now.row before c.args.column c.args.line.now.cells.now c.seen_in-byte.result.0 c.seen_in-byte.result.1 c.requires.line.cells c.seen_in-byte.ensures.byte c.seen_in-byte.ensures.pen))
+    ∙ sym (painted c.args.scene.now.painter c.args.scene.now.picture.now before c.args.line.now.row c.args.column
+    (place_shown c.args.scene.now.painter c.args.scene.now.picture.now c.args.line.now.row before c.args.column c.args.line.now.cells.now c.seen_in-byte.result.0 c.seen_in-byte.result.1 c.requires.line.cells c.seen_in-byte.ensures.byte c.seen_in-byte.ensures.pen
+    (sym c.is_shown_in.ensures ∙ unlike)))
+
+pub returns-then-self-clause-all : goal.returns-then-self-clause-all
+returns-then-self-clause-all c =
+    let before = option_map (λ looks. looks.now) c.args.line.now.before in
+    let unlike : c.is_shown_in.result ≡ false = search rules in
+    painted_goes c.args.scene.now.profile.now c.args.scene.now.painter c.args.scene.now.picture.now before c.args.line.now.row c.args.column c.args.self.now c.join_write.new.self c.args.left (record { byte = c.seen_in-byte.result.0; pen = c.seen_in-byte.result.1 })
+    (place_shown c.args.scene.now.painter c.args.scene.now.picture.now c.args.line.now.row before c.args.column c.args.line.now.cells.now c.seen_in-byte.result.0 c.seen_in-byte.result.1 c.requires.line.cells c.seen_in-byte.ensures.byte c.seen_in-byte.ensures.pen
+    (sym c.is_shown_in.ensures ∙ unlike))
+    c.requires.left
+    (differs_by c.args.scene.now.painter c.args.scene.now.picture.now c.args.line.now.row before c.args.column c.args.line.now.cells.now c.seen_in-byte.result.0 c.seen_in-byte.result.1 c.requires.line.cells c.seen_in-byte.ensures.byte c.seen_in-byte.ensures.pen)
+    c.in_ok-join_write.ensures.all
+
+pub count_unlike-requires-clause-unlike : goal.count_unlike-requires-clause-unlike
+count_unlike-requires-clause-unlike c =
+    let before = option_map (λ looks. looks.now) c.args.line.now.before in
+    let unlike : c.is_shown_in.result ≡ false = search rules in
+    place_shown c.args.scene.now.painter c.args.scene.now.picture.now c.args.line.now.row before c.args.column c.args.line.now.cells.now c.seen_in-byte.result.0 c.seen_in-byte.result.1 c.requires.line.cells c.seen_in-byte.ensures.byte c.seen_in-byte.ensures.pen
+    (sym c.is_shown_in.ensures ∙ unlike)
+
+pub count_unlike-requires-clause-pen : goal.count_unlike-requires-clause-pen
+count_unlike-requires-clause-pen c =
+    let before = option_map (λ looks. looks.now) c.args.line.now.before in
+    ap (λ look. look.pen) (differs_by c.args.scene.now.painter c.args.scene.now.picture.now c.args.line.now.row before c.args.column c.args.line.now.cells.now c.seen_in-byte.result.0 c.seen_in-byte.result.1 c.requires.line.cells c.seen_in-byte.ensures.byte c.seen_in-byte.ensures.pen)

@@ -1,0 +1,33 @@
+use Rattle.std.proofs.Common.{ap, arith, refl, subst, ◌≡◌, ◌∙◌, ◌≤◌, ◌-◌, ◌+◌}
+use Rattle.scr_term.specs.Operations.States.{spot_after}
+use Rattle.scr_plan.specs.Code.Joinings.{counted_up}
+use Rattle.scr_plan.specs.Code.Drafts.{IsPut}
+use Rattle.scr_plan.proofs.DraftLaws.{put_more, put_none}
+use Rattle.scr_plan.proofs.LookingLaws.{look_by}
+use Rattle.scr_plan.proofs.strokes.Draft.push_each.Goals as goal
+
+pub loop-place-init : goal.loop-place-init
+loop-place-init c = record {
+  put = put_none c.args.scene.now.profile.now c.args.scene.now.picture.now c.requires.scene.fits c.args.row c.args.column (omega (arith, c.requires.column, c.requires.end)) c.args.self.now _ c.requires.spot c.in_ok-reserve.ensures.items refl refl refl refl;
+  room = omega (arith, c.in_ok-reserve.ensures.ok, c.in_ok-reserve.ensures.len, c.requires.column);
+}
+
+pub push_reserved-requires : goal.push_reserved-requires
+push_reserved-requires c = omega (arith, c.loop-place.invariant.room, c.loop-place-test.true)
+
+pub loop-place-preserved : goal.loop-place-preserved
+loop-place-preserved c =
+    let low : c.args.column ≤ c.loop-place.place = c.loop-place.auto.place in
+    record {
+      put =
+          put_more c.run_laws.ensures c.profiles_have.ensures c.grid_laws.ensures c.args.scene.now.profile.now c.size-size.ensures.profile c.args.scene.now.picture.now c.size-picture.ensures.picture c.requires.scene.fits c.args.scene.now.painter c.requires.scene.painter c.args.row c.args.column c.loop-place.place
+          c.requires.row low (omega (arith, c.loop-place-test.true, c.requires.end)) c.byte.result c.args.self.now c.loop-place.self _ (c.requires.pen c.loop-place.place low c.loop-place-test.true)
+          (c.byte.ensures.value ∙ ap (λ cell. cell.byte) c.cell_in.ensures ∙ ap (λ look. look.byte) (look_by c.args.scene.now.painter c.args.scene.now.picture.now c.args.row c.loop-place.place c.row-cells.result.now c.row-cells.ensures.cells))
+          c.push_reserved.ensures.items refl refl refl refl c.loop-place.invariant.put;
+      room = omega (arith, c.loop-place.invariant.room, c.push_reserved.ensures.len, c.push_reserved.ensures.capacity, c.loop-place-test.true);
+    }
+
+pub returns : goal.returns
+returns c =
+    let last : c.loop-place.place ≡ c.args.end = omega (arith, c.loop-place-test.false, c.loop-place.auto.place-end (omega (arith, c.requires.column))) in
+    subst (λ n. IsPut c.args.scene.now.profile.now c.args.scene.now.picture.now c.args.row c.args.column n c.args.self.now c.loop-place.self) last c.loop-place.invariant.put
