@@ -157,13 +157,41 @@ static unsigned short_at(const struct text *entry, size_t place)
     return entry->bytes[place] | (unsigned)entry->bytes[place + 1] << 8;
 }
 
-/* Where the offsets of an entry's strings begin, each of two bytes. */
+/* The parts of an entry lie one behind the other: the names, the flags, a byte if these end at an odd place, the
+   numbers, and the offsets of the strings, each of two bytes. */
+#define NAMES 12
+
+static size_t flags_of(const struct text *entry)
+{
+    return NAMES + short_at(entry, 2);
+}
+
+static size_t numbers_of(const struct text *entry)
+{
+    size_t end = flags_of(entry) + short_at(entry, 4);
+
+    return end + end % 2;
+}
+
+/* How many bytes a number has. */
+static size_t width_of_numbers(const struct text *entry)
+{
+    return short_at(entry, 0) == 0x021e ? 4 : 2;
+}
+
 static size_t offsets_of(const struct text *entry)
 {
-    size_t numbers = short_at(entry, 0) == 0x021e ? 4 : 2;
-    size_t names = short_at(entry, 2), flags = short_at(entry, 4);
+    return numbers_of(entry) + width_of_numbers(entry) * short_at(entry, 6);
+}
 
-    return 12 + names + flags + (names + flags) % 2 + numbers * short_at(entry, 6);
+/* The string that begins so many bytes behind the last offset, or NULL. */
+static char *string_at(const struct text *entry, size_t strings, unsigned begin)
+{
+    size_t place = strings + begin;
+
+    if (begin > 0x7fff || place >= entry->length || !memchr(entry->bytes + place, '\0', entry->length - place))
+        return NULL;
+    return (char *)entry->bytes + place;
 }
 
 /* The string at a position of an entry, or NULL. */
@@ -171,12 +199,8 @@ static const char *string_of(const SCREEN *screen, unsigned position)
 {
     const struct text *entry = &screen->entry;
     size_t offsets = offsets_of(entry), count = short_at(entry, 8);
-    size_t begin = position < count ? short_at(entry, offsets + 2 * position) : 0xffff;
-    size_t place = offsets + 2 * count + begin;
 
-    if (begin >= 0xfffe || place >= entry->length || !memchr(entry->bytes + place, '\0', entry->length - place))
-        return NULL;
-    return (const char *)entry->bytes + place;
+    return position < count ? string_at(entry, offsets + 2 * count, short_at(entry, offsets + 2 * position)) : NULL;
 }
 
 /* A padding, as `$<5.5*>`: a pause between bytes of a string (terminfo(5), 'Delays and Padding'). */

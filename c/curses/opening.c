@@ -88,6 +88,7 @@ static SCREEN *made_screen(const char *type, int output, int input, const char *
 {
     SCREEN *screen = calloc(1, sizeof *screen);
     struct search search = {type, false, false};
+    struct terminal *terminal;
     uint32_t rows, columns, fault;
 
     *reason = "out of memory";
@@ -110,8 +111,9 @@ static SCREEN *made_screen(const char *type, int output, int input, const char *
         return NULL;
     }
     strcpy(screen->name, type);
-    screen->terminal = made_terminal(&screen->entry, type, output, &fault);
-    if (!screen->terminal || !make_windows(screen) || !make_texts(screen)) {
+    terminal = made_terminal(&screen->entry, type, output);
+    screen->terminal = terminal ? &terminal->seen : NULL;
+    if (!terminal || !make_windows(screen) || !make_texts(screen)) {
         free_screen(screen);
         return NULL;
     }

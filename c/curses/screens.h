@@ -99,10 +99,10 @@ struct labels {
 struct terminal {
     TERMINAL seen;             /* what term.h shows: the first member, so that a pointer to it is one to all of this */
     struct terminal *next;
-    huttavel entry;
+    struct text file;          /* the compiled file, where its names and its strings are */
+    huttavel entry;            /* for its strings with parameters; of a screen's entry opened by the first of these */
     char *type;                /* the name that it was opened by: termname() */
     char *names;               /* all its names, with `|` between them */
-    char *strings;             /* the memory of its strings */
     char *result;              /* of tparm() */
     struct line line;          /* of its descriptor */
     short pair;                /* the one that vid_puts() set last */

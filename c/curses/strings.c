@@ -16,7 +16,7 @@ static char *given_text(const char *text, const int32_t numbers[9])
         return NULL;
     room = GIVEN_BYTES * length;
     result = malloc(room + 1);
-    if (!result || huttavel_parameters(&terminal->entry, (const uint8_t *)text, length, numbers, (uint8_t *)result,
+    if (!result || huttavel_parameters(entry_of(terminal), (const uint8_t *)text, length, numbers, (uint8_t *)result,
                                        room, &count) != HUTTAVEL_OK) {
         free(result);
         return NULL;

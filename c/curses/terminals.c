@@ -18,56 +18,53 @@ char ttytype[TYPE_LENGTH];
 /* All terminals, the last made first. */
 static struct terminal *terminals;
 
-/* Copies the strings of the entry to memory, each with a NUL at its end, and shows them. Gives the size of them all;
-   without memory it does only that. */
-static size_t take_strings(struct terminal *terminal, char *memory, size_t room)
+/* Shows the strings of a terminal, which are in its file. */
+static void show_strings(struct terminal *terminal)
 {
-    size_t taken = 0, length;
-    uint32_t position;
+    const struct text *file = &terminal->file;
+    size_t offsets = offsets_of(file), count = short_at(file, 8), position;
 
-    for (position = 0; position < COUNT_OF(terminal->seen.strings); position++) {
-        uint8_t *place = memory ? (uint8_t *)memory + taken : NULL;
-
-        if (huttavel_entry_text(&terminal->entry, position, place, memory ? room - taken : 0, &length) != HUTTAVEL_OK)
-            continue;
-        if (memory) {
-            place[length] = '\0';
-            terminal->seen.strings[position] = (char *)place;
-        }
-        taken += length + 1;
-    }
-    return taken;
+    for (position = 0; position < count && position < COUNT_OF(terminal->seen.strings); position++)
+        terminal->seen.strings[position] =
+            string_at(file, offsets + 2 * count, short_at(file, offsets + 2 * position));
 }
 
-static void take_flags_and_numbers(struct terminal *terminal)
+/* A number of a file: -1 if it is absent. As in the library, a greater one than 32,767 counts as this. */
+static int number_at(const struct text *file, size_t position)
 {
-    uint32_t position, number;
+    size_t width = width_of_numbers(file), place = numbers_of(file) + width * position;
+    unsigned low = short_at(file, place), high = width == 4 ? short_at(file, place + 2) : 0;
 
-    for (position = 0; position < COUNT_OF(terminal->seen.flags); position++)
-        huttavel_entry_flag(&terminal->entry, position, &terminal->seen.flags[position]);
-    for (position = 0; position < COUNT_OF(terminal->seen.numbers); position++) {
-        bool is_there = huttavel_entry_number(&terminal->entry, position, &number) == HUTTAVEL_OK;
-
-        terminal->seen.numbers[position] = is_there ? (int)number : -1;
-    }
+    if (high > 0x7fff || (width == 2 && low > 0x7fff))
+        return -1;
+    return high > 0 || low > 0x7fff ? 0x7fff : (int)low;
 }
 
-/* Takes all that an open entry has. False if memory runs out. */
-static bool take_entry(struct terminal *terminal, const char *type)
+/* Shows the flags and the numbers. */
+static void show_flags_and_numbers(struct terminal *terminal)
 {
-    size_t names = 0, strings = take_strings(terminal, NULL, 0);
+    const struct text *file = &terminal->file;
+    size_t flags = short_at(file, 4), numbers = short_at(file, 6), position;
 
-    huttavel_entry_names(&terminal->entry, NULL, 0, &names);
+    for (position = 0; position < flags && position < COUNT_OF(terminal->seen.flags); position++)
+        terminal->seen.flags[position] = file->bytes[flags_of(file) + position] == 1;
+    for (position = 0; position < COUNT_OF(terminal->seen.numbers); position++)
+        terminal->seen.numbers[position] = position < numbers ? number_at(file, position) : -1;
+}
+
+/* Takes all that a compiled entry has, which the library can open. False if memory runs out. */
+static bool take_entry(struct terminal *terminal, const struct text *entry, const char *type)
+{
     terminal->type = malloc(strlen(type) + 1);
-    terminal->names = malloc(names + 1);
-    terminal->strings = malloc(strings + 1);
-    if (!terminal->type || !terminal->names || !terminal->strings)
+    terminal->file.bytes = malloc(entry->length);
+    if (!terminal->type || !terminal->file.bytes)
         return false;
     strcpy(terminal->type, type);
-    huttavel_entry_names(&terminal->entry, (uint8_t *)terminal->names, names, NULL);
-    terminal->names[names] = '\0';
-    take_strings(terminal, terminal->strings, strings);
-    take_flags_and_numbers(terminal);
+    memcpy(terminal->file.bytes, entry->bytes, entry->length);
+    terminal->file.length = entry->length;
+    terminal->names = (char *)terminal->file.bytes + NAMES;
+    show_strings(terminal);
+    show_flags_and_numbers(terminal);
     return true;
 }
 
@@ -75,30 +72,52 @@ static void free_terminal(struct terminal *terminal)
 {
     huttavel_close(&terminal->entry);
     free(terminal->type);
-    free(terminal->names);
-    free(terminal->strings);
+    free(terminal->file.bytes);
     free(terminal->result);
     free(terminal);
 }
 
-/* A terminal of a compiled entry, for a descriptor. NULL, and why, if the entry is none, or memory runs out. */
-static TERMINAL *made_terminal(const struct text *entry, const char *type, int output, uint32_t *fault)
+/* The handle of a terminal's entry; it stays closed if memory runs out. */
+static huttavel *entry_of(struct terminal *terminal)
+{
+    if (!huttavel_is_open(&terminal->entry))
+        huttavel_entry_open(&terminal->entry, terminal->file.bytes, terminal->file.length);
+    return &terminal->entry;
+}
+
+/* A terminal of a compiled entry that the library can open, for a descriptor. NULL if memory runs out. */
+static struct terminal *made_terminal(const struct text *entry, const char *type, int output)
 {
     struct terminal *terminal = calloc(1, sizeof *terminal);
 
-    *fault = HUTTAVEL_NO_MEMORY;
-    if (!terminal)
-        return NULL;
-    *fault = huttavel_entry_open(&terminal->entry, entry->bytes, entry->length);
-    if (*fault == HUTTAVEL_OK && !take_entry(terminal, type))
-        *fault = HUTTAVEL_NO_MEMORY;
-    if (*fault != HUTTAVEL_OK) {
+    if (terminal && !take_entry(terminal, entry, type)) {
         free_terminal(terminal);
         return NULL;
     }
-    open_line(&terminal->line, output);
-    terminal->next = terminals;
-    terminals = terminal;
+    if (terminal) {
+        open_line(&terminal->line, output);
+        terminal->next = terminals;
+        terminals = terminal;
+    }
+    return terminal;
+}
+
+/* The same of an entry that is read first. NULL, and why, also if it is none. */
+static TERMINAL *checked_terminal(const struct text *entry, const char *type, int output, uint32_t *fault)
+{
+    huttavel handle = HUTTAVEL_CLOSED_HANDLE;
+    struct terminal *terminal = NULL;
+
+    *fault = huttavel_entry_open(&handle, entry->bytes, entry->length);
+    if (*fault == HUTTAVEL_OK) {
+        terminal = made_terminal(entry, type, output);
+        *fault = terminal ? HUTTAVEL_OK : HUTTAVEL_NO_MEMORY;
+    }
+    if (!terminal) {
+        huttavel_close(&handle);
+        return NULL;
+    }
+    terminal->entry = handle;
     return &terminal->seen;
 }
 
@@ -129,7 +148,7 @@ static TERMINAL *opened_terminal(const char *type, int output, int *status, cons
         *reason = why_none(&search);
         return NULL;
     }
-    terminal = made_terminal(&entry, type, output, &fault);
+    terminal = checked_terminal(&entry, type, output, &fault);
     free(entry.bytes);
     if (!terminal) {
         *status = fault == HUTTAVEL_NO_MEMORY ? -1 : 0;
