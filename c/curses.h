@@ -218,7 +218,11 @@ int scr_restore(const char *name);
 int scr_init(const char *name);
 int scr_set(const char *name);
 
-/* Places and sizes. */
+/* Places and sizes. A WINDOW begins with the place of its cursor, which getyx() reads there. */
+struct huttavel_curses_place {
+    int row, column;
+};
+#define huttavel_curses_place(window) ((const struct huttavel_curses_place *)(window))
 int getcury(const WINDOW *window);
 int getcurx(const WINDOW *window);
 int getbegy(const WINDOW *window);
@@ -227,7 +231,9 @@ int getmaxy(const WINDOW *window);
 int getmaxx(const WINDOW *window);
 int getpary(const WINDOW *window);
 int getparx(const WINDOW *window);
-#define getyx(window, row, column) ((row) = getcury(window), (column) = getcurx(window))
+#define getyx(window, y, x)                                     \
+    ((y) = (window) ? huttavel_curses_place(window)->row : ERR, \
+     (x) = (window) ? huttavel_curses_place(window)->column : ERR)
 #define getbegyx(window, row, column) ((row) = getbegy(window), (column) = getbegx(window))
 #define getmaxyx(window, row, column) ((row) = getmaxy(window), (column) = getmaxx(window))
 #define getparyx(window, row, column) ((row) = getpary(window), (column) = getparx(window))

@@ -2,38 +2,107 @@
 
 int wmove(WINDOW *window, int row, int column)
 {
-    if (!window)
+    if (!window || window->number == NO_NUMBER || (unsigned)row >= (unsigned)window->rows ||
+        (unsigned)column >= (unsigned)window->columns)
         return ERR;
-    if (huttavel_move_cursor(handle_of(window), window->number, (uint32_t)row, (uint32_t)column) != HUTTAVEL_OK)
-        return ERR;
+    set_place(window, row, column);
     window->has_moved = true;
     return OK;
 }
 
-/* Makes a call on a window while bytes are written with a character's pair, if it has one; then with the window's. */
-#define WITH_PAIR(window, character, fault, call)                                                            \
-    do {                                                                                                     \
-        uint32_t pair = pair_of(character);                                                                  \
-        bool is_other = pair != 0 && pair != (window)->pair;                                                 \
-                                                                                                             \
-        if (is_other)                                                                                        \
-            huttavel_color_set(handle_of(window), (window)->number, pair);                                   \
-        (fault) = (call);                                                                                    \
-        if (is_other)                                                                                        \
-            huttavel_color_set(handle_of(window), (window)->number, (window)->pair);                         \
-    } while (0)
+/* The pen of a window with a character's pair, if it has one. */
+static attr_t pen_for(const WINDOW *window, chtype character)
+{
+    attr_t pair = pair_in(character);
+
+    return pair ? (window->pen & ~A_COLOR) | pair : window->pen;
+}
+
+/* The same with its attributes, too. */
+static attr_t pen_of(const WINDOW *window, chtype character)
+{
+    return character <= A_CHARTEXT ? window->pen : pen_for(window, character) | (character & A_ATTRIBUTES & ~A_COLOR);
+}
+
+/* Adds a byte with its attributes and pair; whether it needed a next line and there was none. */
+static uint32_t add_byte(WINDOW *window, chtype character, bool *stayed)
+{
+    huttavel *handle = handle_with(window, pen_for(window, character));
+    uint32_t fault = huttavel_add_byte(handle, window->number, byte_of(character), attrs_of(character), stayed);
+
+    read_cursor(window);
+    return fault;
+}
+
+/* Whether a character is written as it is, and before the last place of a line. None is on curscr. */
+static inline bool is_simple(const WINDOW *window, chtype character)
+{
+    return is_printable(byte_of(character)) && !((character | window->pen) & A_ALTCHARSET) &&
+           (unsigned)window->cursor.column < (unsigned)window->columns - 1;
+}
+
+/* Whether there is room for a character that a window writes with a pen behind those that were added last. */
+static inline bool follows(const WINDOW *window, attr_t pen)
+{
+    const struct added *added = &window->screen->added;
+
+    return added->window == window && added->pen == pen && !window->is_moved && added->length < added->room;
+}
+
+/* Where simple characters that a window writes with a pen are put: at least one. Nothing follows one after which there
+   is more to do. */
+static struct added *added_to(WINDOW *window, attr_t pen)
+{
+    struct added *added = &window->screen->added;
+    int left = window->columns - 1 - window->cursor.column;
+
+    if (follows(window, pen))
+        return added;
+    handle_with(window, pen);
+    added->window = window;
+    added->pen = pen;
+    added->begun = window->cursor;
+    added->room = window->is_synced || window->is_immediate ? 1 : left < ADDED ? (size_t)left : ADDED;
+    return added;
+}
+
+static inline void put_behind(WINDOW *window, struct added *added, chtype character)
+{
+    added->bytes[added->length++] = byte_of(character);
+    window->cursor.column++;
+}
+
+/* Adds a simple character. */
+static void add_simple(WINDOW *window, chtype character)
+{
+    put_behind(window, added_to(window, pen_of(window, character)), character);
+}
+
+/* Adds so many simple characters. */
+static void add_all_simple(WINDOW *window, const char *text, size_t length)
+{
+    while (length > 0) {
+        struct added *added = added_to(window, window->pen);
+        size_t left = added->room - added->length, count = left < length ? left : length;
+
+        memcpy(added->bytes + added->length, text, count);
+        added->length += count;
+        window->cursor.column += (int)count;
+        text += count;
+        length -= count;
+    }
+}
 
 /* Whether the cursor, which found no next line, is in a last line below the lines that scroll: then it goes to the
    beginning of that line. */
 static bool begins_again(WINDOW *window)
 {
-    int row = getcury(window);
     uint32_t top = 0, bottom = 0;
 
     huttavel_region(handle_of(window), window->number, &top, &bottom);
-    if (row == (int)bottom)
+    if (window->cursor.row == (int)bottom)
         return false;
-    huttavel_move_cursor(handle_of(window), window->number, (uint32_t)row, 0);
+    set_place(window, window->cursor.row, 0);
     return true;
 }
 
@@ -44,8 +113,7 @@ static int add_character(WINDOW *window, chtype character, int count)
     uint32_t fault = HUTTAVEL_OK;
 
     for (; count > 0 && !stayed && fault == HUTTAVEL_OK; count--) {
-        WITH_PAIR(window, character, fault,
-                  huttavel_add_byte(handle_of(window), window->number, byte_of(character), attrs_of(character), &stayed));
+        fault = add_byte(window, character, &stayed);
         stayed = stayed && !begins_again(window);
     }
     return stayed ? ERR : answer(fault);
@@ -55,11 +123,9 @@ static int add_character(WINDOW *window, chtype character, int count)
 static bool is_at_end(const WINDOW *window)
 {
     uint32_t top = 0, bottom = 0;
-    bool is_on = false;
 
     huttavel_region(handle_of(window), window->number, &top, &bottom);
-    huttavel_is_scroll_ok(handle_of(window), window->number, &is_on);
-    return !is_on && getcury(window) == (int)bottom;
+    return !window->is_scrolling && window->cursor.row == (int)bottom;
 }
 
 /* Adds a tab: blanks with the window's attributes, which the library's tab has not. One that leaves its line is a line
@@ -82,6 +148,10 @@ static bool is_shown_as_two(uint8_t byte)
 /* Adds a character, in a window. */
 static int add_one(WINDOW *window, chtype character)
 {
+    if (is_simple(window, character)) {
+        add_simple(window, character);
+        return OK;
+    }
     character = drawn_in(window, character);
     if (byte_of(character) == '\t')
         return add_tab(window, character);
@@ -93,43 +163,64 @@ static int add_one(WINDOW *window, chtype character)
     return add_character(window, character, 1);
 }
 
-int waddch(WINDOW *window, const chtype character)
+/* Adds a character, in a window, and marks its place. */
+static int add_marked(WINDOW *window, chtype character)
 {
-    int row = getcury(window), column = getcurx(window), done;
+    struct huttavel_curses_place begun;
+    int done;
 
     if (!window)
         return ERR;
+    begun = window->cursor;
     done = add_one(window, character);
-    mark_written(window, row, column, 1, is_printable(byte_of(character)));
+    mark_written(window, &begun, 1, is_printable(byte_of(character)));
     return changed_marked(window, done);
+}
+
+/* Most characters follow another one, and take no more than this. */
+int waddch(WINDOW *window, const chtype character)
+{
+    if (!window || character & A_COLOR || !is_printable(byte_of(character)) ||
+        !follows(window, window->pen | (character & A_ATTRIBUTES)))
+        return add_marked(window, character);
+    put_behind(window, &window->screen->added, character);
+    return OK;
 }
 
 int wechochar(WINDOW *window, const chtype character)
 {
-    return waddch(window, character) == ERR ? ERR : wrefresh(window);
+    return add_marked(window, character) == ERR ? ERR : wrefresh(window);
 }
 
-/* How many characters of a text can be written together: those that lie side by side before the end of the window's
-   line, its last place left out, where they are written as they are. */
-static size_t side_by_side(const WINDOW *window, const char *text, size_t length)
+/* How many characters of a text, which begins with so many that are printable, can be written together: those that lie
+   side by side before the end of the window's line, its last place left out, where they are written as they are. */
+static size_t side_by_side(const WINDOW *window, size_t printable)
 {
-    int room = window->is_alternate ? 0 : window->columns - 1 - getcurx(window);
-    size_t most = room > 0 ? (size_t)room : 0, count = 0;
+    int room = window->columns - 1 - window->cursor.column;
 
-    while (count < most && count < length && is_printable((uint8_t)text[count]))
+    if (room <= 0 || window->pen & A_ALTCHARSET || is_shown(window))
+        return 0;
+    return (size_t)room < printable ? (size_t)room : printable;
+}
+
+static size_t count_printable(const char *text, size_t length)
+{
+    size_t count = 0;
+
+    while (count < length && is_printable((uint8_t)text[count]))
         count++;
     return count;
 }
 
-/* Adds the bytes of a text up to the first that is refused or finds no next line. */
-static int add_bytes(WINDOW *window, const char *text, size_t length)
+/* Adds the bytes of a text, which begins with so many that are printable, up to the first byte that is refused or finds
+   no next line. */
+static int add_bytes(WINDOW *window, const char *text, size_t length, size_t printable)
 {
     while (length > 0) {
-        size_t count = side_by_side(window, text, length);
+        size_t count = side_by_side(window, printable);
 
         if (count > 0) {
-            if (huttavel_add_text(handle_of(window), window->number, (const uint8_t *)text, count, NULL) != HUTTAVEL_OK)
-                return ERR;
+            add_all_simple(window, text, count);
         } else {
             if (add_one(window, (unsigned char)*text) == ERR)
                 return ERR;
@@ -137,6 +228,7 @@ static int add_bytes(WINDOW *window, const char *text, size_t length)
         }
         text += count;
         length -= count;
+        printable = count < printable ? printable - count : count_printable(text, length);
     }
     return OK;
 }
@@ -144,25 +236,26 @@ static int add_bytes(WINDOW *window, const char *text, size_t length)
 /* The length of a text, at most `most` if that is not negative. */
 static size_t length_of(const char *text, int most)
 {
-    size_t length = 0;
-
-    while ((most < 0 || length < (size_t)most) && text[length])
-        length++;
-    return length;
+    return most < 0 ? strlen(text) : strnlen(text, (size_t)most);
 }
 
 int waddnstr(WINDOW *window, const char *text, int most)
 {
-    int row = getcury(window), column = getcurx(window), done;
-    size_t length, count = 0;
+    struct huttavel_curses_place begun;
+    size_t length, printable;
+    int done;
 
     if (!window || !text)
         return ERR;
     length = length_of(text, most);
-    done = add_bytes(window, text, length);
-    while (count < length && is_printable((uint8_t)text[count]))
-        count++;
-    mark_written(window, row, column, length, count == length);
+    printable = count_printable(text, length);
+    if (side_by_side(window, printable) == length) {
+        add_all_simple(window, text, length);
+        return changed_marked(window, OK);
+    }
+    begun = window->cursor;
+    done = add_bytes(window, text, length, printable);
+    mark_written(window, &begun, length, printable == length);
     return changed_marked(window, done);
 }
 
@@ -175,15 +268,10 @@ int waddstr(WINDOW *window, const char *text)
 static int draw_line(uint32_t (*draw)(huttavel *, uint32_t, uint8_t, uint32_t), WINDOW *window, chtype character,
                      int count)
 {
-    uint8_t before = window->attrs;
-    uint32_t fault;
-
     if (count <= 0)
         return OK;
-    set_pen(window, before | attrs_of(character), window->pair);
-    WITH_PAIR(window, character, fault, draw(handle_of(window), window->number, byte_of(character), (uint32_t)count));
-    set_pen(window, before, window->pair);
-    return answer(fault);
+    return answer(draw(handle_with(window, pen_of(window, character)), window->number, byte_of(character),
+                       (uint32_t)count));
 }
 
 /* A character that may be left out. */
@@ -231,11 +319,11 @@ static int draw_border(WINDOW *window, const chtype pieces[8])
                   {last_row, last_column, 1, huttavel_line_across}};
 
     for (n = 0; n < 8; n++) {
-        huttavel_move_cursor(handle_of(window), window->number, (uint32_t)lines[n].row, (uint32_t)lines[n].column);
+        set_place(window, lines[n].row, lines[n].column);
         if (draw_line(lines[n].draw, window, pieces[n], lines[n].count) == ERR)
             break;
     }
-    huttavel_move_cursor(handle_of(window), window->number, (uint32_t)row, (uint32_t)column);
+    set_place(window, row, column);
     return n == 8 ? OK : ERR;
 }
 

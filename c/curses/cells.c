@@ -6,7 +6,7 @@
 /* What is put aside of a window meanwhile. */
 struct aside {
     huttavel_cell background;
-    uint32_t row, column;
+    struct huttavel_curses_place cursor;
 };
 
 static void begin_cells(WINDOW *window, struct aside *aside)
@@ -14,7 +14,7 @@ static void begin_cells(WINDOW *window, struct aside *aside)
     huttavel *handle = handle_of(window);
 
     huttavel_background(handle, window->number, &aside->background);
-    huttavel_cursor(handle, window->number, &aside->row, &aside->column);
+    aside->cursor = window->cursor;
     huttavel_set_background(handle, window->number, ' ', 0, 0);
 }
 
@@ -24,9 +24,8 @@ static void end_cells(WINDOW *window, const struct aside *aside)
     const huttavel_cell *background = &aside->background;
 
     huttavel_set_background(handle, window->number, background->byte, background->attrs, background->pair);
-    huttavel_attr_set(handle, window->number, window->attrs);
-    huttavel_color_set(handle, window->number, window->pair);
-    huttavel_move_cursor(handle, window->number, aside->row, aside->column);
+    set_pen(window, window->pen);
+    set_place(window, aside->cursor.row, aside->cursor.column);
 }
 
 /* Writes cells side by side that have the same attributes and pair. The last place of a line is written as a line of
@@ -39,8 +38,7 @@ static void put_alike(WINDOW *window, int row, int column, const huttavel_cell *
 
     for (n = 0; n < count; n++)
         bytes[n] = cells[n].byte;
-    huttavel_attr_set(handle, window->number, cells->attrs);
-    huttavel_color_set(handle, window->number, cells->pair);
+    set_held_pen(window, cells->attrs, cells->pair);
     huttavel_move_cursor(handle, window->number, (uint32_t)row, (uint32_t)column);
     huttavel_add_text(handle, window->number, bytes, (size_t)inner, NULL);
     if (inner < count)
@@ -82,7 +80,7 @@ int waddchnstr(WINDOW *window, const chtype *characters, int most)
 
     if (!window || !characters || is_shown(window))
         return ERR;
-    count = window->columns - getcurx(window);
+    count = window->columns - window->cursor.column;
     count = characters_in(characters, most < 0 || most > count ? count : most);
     if (count < 0)
         return ERR;
@@ -90,10 +88,10 @@ int waddchnstr(WINDOW *window, const chtype *characters, int most)
     for (done = 0; done < count; done += n) {
         for (n = 0; n < PIECE && done + n < count; n++)
             cells[n] = cell_of(drawn(characters[done + n]));
-        put_cells(window, (int)aside.row, (int)aside.column + done, cells, n);
+        put_cells(window, aside.cursor.row, aside.cursor.column + done, cells, n);
     }
     end_cells(window, &aside);
-    mark(window, (int)aside.row, (int)aside.column, (int)aside.column + count - 1);
+    mark(window, aside.cursor.row, aside.cursor.column, aside.cursor.column + count - 1);
     return changed_marked(window, OK);
 }
 
@@ -114,19 +112,19 @@ int wchgat(WINDOW *window, int count, attr_t attrs, short pair, const void *opti
     if (!window || is_shown(window) || pair < 0 || pair >= pair_limit(window->screen))
         return ERR;
     held = (uint8_t)held_pair(window->screen, pair);
-    room = window->columns - getcurx(window);
+    room = window->columns - window->cursor.column;
     if (count < 0 || count > room)
         count = room;
     begin_cells(window, &aside);
     for (done = 0; done < count; done += n) {
         for (n = 0; n < PIECE && done + n < count; n++) {
-            cell_at(window, (int)aside.row, (int)aside.column + done + n, &cells[n]);
+            cell_at(window, aside.cursor.row, aside.cursor.column + done + n, &cells[n]);
             cells[n].attrs = attrs_of(attrs);
             cells[n].pair = held;
         }
-        put_cells(window, (int)aside.row, (int)aside.column + done, cells, n);
+        put_cells(window, aside.cursor.row, aside.cursor.column + done, cells, n);
     }
     end_cells(window, &aside);
-    mark(window, (int)aside.row, (int)aside.column, (int)aside.column + count - 1);
+    mark(window, aside.cursor.row, aside.cursor.column, aside.cursor.column + count - 1);
     return changed_marked(window, OK);
 }

@@ -76,6 +76,12 @@ static uint32_t pair_of(chtype character)
     return current && current->pairs && pair < pair_limit(current) ? held_pair(current, pair) : 0;
 }
 
+/* The pair of a character, as it stands there, if it has one that can be used. */
+static attr_t pair_in(chtype character)
+{
+    return character & A_COLOR && pair_of(character) ? character & A_COLOR : 0;
+}
+
 /* A cell as a chtype. */
 static chtype character_of(huttavel_cell cell)
 {
@@ -112,5 +118,5 @@ static chtype drawn(chtype character)
 /* The same where the window has A_ALTCHARSET on. */
 static chtype drawn_in(const WINDOW *window, chtype character)
 {
-    return drawn(window->is_alternate ? character | A_ALTCHARSET : character);
+    return drawn(character | (window->pen & A_ALTCHARSET));
 }

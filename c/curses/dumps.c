@@ -26,11 +26,10 @@ static void save_window(WINDOW *window, long *saved)
 {
     huttavel *handle = handle_of(window);
     uint32_t top = 0, bottom = 0;
-    bool scrolls = false, leaves = false;
+    bool leaves = false;
     attr_t attrs = 0;
 
     huttavel_region(handle, window->number, &top, &bottom);
-    huttavel_is_scroll_ok(handle, window->number, &scrolls);
     huttavel_is_leave_ok(handle, window->number, &leaves);
     wattr_get(window, &attrs, NULL, NULL);
     saved[SAVED_ROWS] = window->rows;
@@ -44,7 +43,7 @@ static void save_window(WINDOW *window, long *saved)
     saved[SAVED_BACKGROUND] = (long)getbkgd(window);
     saved[SAVED_TOP] = (long)top;
     saved[SAVED_BOTTOM] = (long)bottom;
-    saved[SAVED_SCROLLS] = scrolls;
+    saved[SAVED_SCROLLS] = window->is_scrolling;
     saved[SAVED_LEAVES] = leaves;
     saved[SAVED_KEYPAD] = window->is_keypad;
     saved[SAVED_UNTIMED] = window->is_untimed;

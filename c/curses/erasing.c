@@ -1,31 +1,37 @@
 /* Calls that erase, delete, insert lines and scroll. */
 
+/* Erases a window by one of two calls, which move its cursor to the first place. */
+static int erase_by(uint32_t (*call)(huttavel *, uint32_t), WINDOW *window)
+{
+    if (call(handle_of(window), number_of(window)) != HUTTAVEL_OK)
+        return ERR;
+    window->cursor.row = window->cursor.column = 0;
+    window->has_moved = true;
+    return changed(window, OK);
+}
+
 int werase(WINDOW *window)
 {
-    if (window)
-        window->has_moved = true;
-    return changed(window, answer(huttavel_erase(handle_of(window), number_of(window))));
+    return erase_by(huttavel_erase, window);
 }
 
 int wclear(WINDOW *window)
 {
-    if (window)
-        window->has_moved = true;
-    return changed(window, answer(huttavel_clear(handle_of(window), number_of(window))));
+    return erase_by(huttavel_clear, window);
 }
 
 int wclrtoeol(WINDOW *window)
 {
     if (window)
-        mark(window, getcury(window), getcurx(window), window->columns - 1);
+        mark(window, window->cursor.row, window->cursor.column, window->columns - 1);
     return changed_marked(window, answer(huttavel_clear_to_eol(handle_of(window), number_of(window))));
 }
 
 int wclrtobot(WINDOW *window)
 {
     if (window) {
-        mark(window, getcury(window), getcurx(window), window->columns - 1);
-        mark_lines(window, getcury(window) + 1, window->rows - 1);
+        mark(window, window->cursor.row, window->cursor.column, window->columns - 1);
+        mark_lines(window, window->cursor.row + 1, window->rows - 1);
     }
     return changed_marked(window, answer(huttavel_clear_to_bottom(handle_of(window), number_of(window))));
 }
@@ -33,7 +39,7 @@ int wclrtobot(WINDOW *window)
 int wdelch(WINDOW *window)
 {
     if (window)
-        mark(window, getcury(window), getcurx(window), window->columns - 1);
+        mark(window, window->cursor.row, window->cursor.column, window->columns - 1);
     return changed_marked(window, answer(huttavel_delete_byte(handle_of(window), number_of(window))));
 }
 

@@ -1,27 +1,20 @@
 /* Calls that insert characters: the rest of the line moves to the right, and its end is lost. Control characters do
    what they do where they are added (X/Open Curses Issue 7, insch()), but no line is begun where one ends. */
 
-/* Where the next character goes. A column behind the last one stays there: what is inserted is lost. */
-struct insertion {
-    int row, column;
-};
-
-/* Inserts a character that a cell can hold. */
-static int insert_cell(WINDOW *window, struct insertion *at, chtype character)
+/* Inserts a character that a cell can hold, and says where the next one goes. Behind the last column it stays there:
+   what is inserted is lost. */
+static int insert_cell(WINDOW *window, struct huttavel_curses_place *at, chtype character)
 {
-    uint32_t fault;
-
     if (at->column == window->columns)
         return OK;
-    huttavel_move_cursor(handle_of(window), window->number, (uint32_t)at->row, (uint32_t)at->column);
-    WITH_PAIR(window, character, fault,
-              huttavel_insert_byte(handle_of(window), window->number, byte_of(character), attrs_of(character)));
+    set_place(window, at->row, at->column);
     at->column++;
-    return answer(fault);
+    return answer(huttavel_insert_byte(handle_with(window, pen_for(window, character)), window->number,
+                                       byte_of(character), attrs_of(character)));
 }
 
 /* Inserts blanks up to the next stop. */
-static int insert_tab(WINDOW *window, struct insertion *at, attr_t attrs)
+static int insert_tab(WINDOW *window, struct huttavel_curses_place *at, attr_t attrs)
 {
     int count = 8 - at->column % 8, done = OK;
 
@@ -31,12 +24,12 @@ static int insert_tab(WINDOW *window, struct insertion *at, attr_t attrs)
 }
 
 /* Erases the rest of the line and goes to the next one; stays where there is none that the window may scroll to. */
-static int insert_line_feed(WINDOW *window, struct insertion *at)
+static int insert_line_feed(WINDOW *window, struct huttavel_curses_place *at)
 {
     uint32_t top = 0, bottom = 0;
 
     if (at->column < window->columns) {
-        huttavel_move_cursor(handle_of(window), window->number, (uint32_t)at->row, (uint32_t)at->column);
+        set_place(window, at->row, at->column);
         huttavel_clear_to_eol(handle_of(window), window->number);
     }
     huttavel_region(handle_of(window), window->number, &top, &bottom);
@@ -51,7 +44,7 @@ static int insert_line_feed(WINDOW *window, struct insertion *at)
 }
 
 /* Inserts a character, or does what it says. */
-static int insert_one(WINDOW *window, struct insertion *at, chtype character)
+static int insert_one(WINDOW *window, struct huttavel_curses_place *at, chtype character)
 {
     attr_t attrs = character & A_ATTRIBUTES;
 
@@ -66,40 +59,33 @@ static int insert_one(WINDOW *window, struct insertion *at, chtype character)
     return insert_cell(window, at, attrs | '^') == ERR ? ERR : insert_cell(window, at, character ^ 64);
 }
 
-/* Where an insertion begins, which is where the cursor is again when it ends. */
-static struct insertion at_cursor(const WINDOW *window)
+/* Puts the cursor where the insertion began. */
+static int end_insertion(WINDOW *window, const struct huttavel_curses_place *begun, int done)
 {
-    struct insertion at = {getcury(window), getcurx(window)};
-
-    return at;
-}
-
-static int end_insertion(WINDOW *window, const struct insertion *begun, int done)
-{
-    huttavel_move_cursor(handle_of(window), window->number, (uint32_t)begun->row, (uint32_t)begun->column);
+    set_place(window, begun->row, begun->column);
     return changed(window, done);
 }
 
 int winsch(WINDOW *window, chtype character)
 {
-    const struct insertion begun = at_cursor(window);
-    struct insertion at = begun;
+    struct huttavel_curses_place begun, at;
 
     if (!window || is_shown(window))
         return ERR;
+    begun = at = window->cursor;
     return end_insertion(window, &begun, insert_one(window, &at, drawn_in(window, character)));
 }
 
 /* Inserts a text up to the first byte that is refused; all of it where `most` is below 1. */
 int winsnstr(WINDOW *window, const char *text, int most)
 {
-    const struct insertion begun = at_cursor(window);
-    struct insertion at = begun;
+    struct huttavel_curses_place begun, at;
     size_t length;
     int done = OK;
 
     if (!window || is_shown(window) || !text)
         return ERR;
+    begun = at = window->cursor;
     for (length = length_of(text, most < 1 ? -1 : most); length > 0 && done == OK; length--)
         done = insert_one(window, &at, drawn_in(window, (unsigned char)*text++));
     return end_insertion(window, &begun, done);

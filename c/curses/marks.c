@@ -17,6 +17,7 @@ static void mark(WINDOW *window, int row, int first, int last)
     last = last < window->columns ? last : window->columns - 1;
     if (row < 0 || row >= window->rows || row >= LARGEST || first > last)
         return;
+    window->is_marked = true;
     places = &window->marks[row];
     if (places->first > places->last) {
         places->first = (short)first;
@@ -39,7 +40,9 @@ static void unmark(WINDOW *window)
 {
     int row;
 
-    window->is_whole = false;
+    if (!window->is_whole && !window->is_marked)
+        return;
+    window->is_whole = window->is_marked = false;
     for (row = 0; row < window->rows && row < LARGEST; row++) {
         window->marks[row].first = 1;
         window->marks[row].last = 0;
@@ -48,15 +51,17 @@ static void unmark(WINDOW *window)
 
 /* Marks what was written from a place on, so many places if all of it is printable: the cursor is at its end. Where it
    is elsewhere, the window may have scrolled. */
-static void mark_written(WINDOW *window, int row, int column, size_t length, bool is_printable)
+static void mark_written(WINDOW *window, const struct huttavel_curses_place *begun, size_t length, bool is_printable)
 {
-    int end_row = getcury(window), end_column = getcurx(window);
+    int row = begun->row, column = begun->column, end_row = window->cursor.row, end_column = window->cursor.column;
     size_t end = (size_t)column + length;
-    bool scrolls = false;
 
-    huttavel_is_scroll_ok(handle_of(window), window->number, &scrolls);
-    if (scrolls && (!is_printable || end / (size_t)window->columns != (size_t)(end_row - row) ||
-                    end % (size_t)window->columns != (size_t)end_column)) {
+    if (is_printable && end_row == row && end == (size_t)end_column) {
+        mark(window, row, column, end_column - 1);
+        return;
+    }
+    if (window->is_scrolling && (!is_printable || end / (size_t)window->columns != (size_t)(end_row - row) ||
+                                 end % (size_t)window->columns != (size_t)end_column)) {
         mark_all(window);
         return;
     }

@@ -8,16 +8,26 @@ static bool cell_at(WINDOW *window, int row, int column, huttavel_cell *cell)
     return huttavel_cell_at(handle_of(window), number_of(window), (uint32_t)row, (uint32_t)column, cell) == HUTTAVEL_OK;
 }
 
-chtype winch(WINDOW *window)
+/* The character at the cursor of curscr. */
+static chtype shown_character(WINDOW *window)
 {
     huttavel_cell cell;
     uint32_t row = 0, column = 0;
 
-    if (is_shown(window))
-        huttavel_wanted_cursor(handle_of(window), &row, &column);
-    else
-        huttavel_cursor(handle_of(window), number_of(window), &row, &column);
+    huttavel_wanted_cursor(handle_of(window), &row, &column);
     return cell_at(window, (int)row, (int)column, &cell) ? character_of(cell) : (chtype)ERR;
+}
+
+chtype winch(WINDOW *window)
+{
+    huttavel_cell cell;
+
+    if (is_shown(window))
+        return shown_character(window);
+    if (huttavel_cell_at(handle_of(window), number_of(window), (uint32_t)getcury(window), (uint32_t)getcurx(window),
+                         &cell) != HUTTAVEL_OK)
+        return (chtype)ERR;
+    return character_of(cell);
 }
 
 int winchnstr(WINDOW *window, chtype *cells, int most)

@@ -116,6 +116,10 @@ int wnoutrefresh(WINDOW *window)
         window->screen->is_disturbed = 1;
         return OK;
     }
+    if (window->screen->copied == window && !window->is_moved)
+        return OK;
+    /* Before the marks are looked at. */
+    handle_of(window);
     window->has_moved = false;
     window->was_copied = true;
     if (window->is_over)
@@ -124,8 +128,10 @@ int wnoutrefresh(WINDOW *window)
         done = copy_marked(window);
     else
         done = answer(huttavel_noutrefresh(handle_of(window), window->number));
-    if (done == OK)
+    if (done == OK) {
         unmark(window);
+        window->screen->copied = window;
+    }
     return done;
 }
 

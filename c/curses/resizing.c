@@ -68,26 +68,25 @@ static void copy_settings(WINDOW *window, huttavel *to, uint32_t number, const s
 {
     huttavel *from = handle_of(window);
     huttavel_cell background = {' ', 0, 0};
-    uint32_t row = 0, column = 0, top = 0, bottom = 0;
+    uint32_t top = 0, bottom = 0;
+    int row = window->cursor.row, column = window->cursor.column;
     bool is_on = false;
 
     huttavel_background(from, window->number, &background);
     huttavel_set_background(to, number, background.byte, background.attrs, background.pair);
     huttavel_attr_set(to, number, window->attrs);
     huttavel_color_set(to, number, window->pair);
-    huttavel_is_scroll_ok(from, window->number, &is_on);
-    huttavel_scroll_ok(to, number, is_on);
+    huttavel_scroll_ok(to, number, window->is_scrolling);
     huttavel_is_leave_ok(from, window->number, &is_on);
     huttavel_leave_ok(to, number, is_on);
     huttavel_region(from, window->number, &top, &bottom);
     if (bottom + 1 < (uint32_t)window->rows || top > 0)
         huttavel_set_region(to, number, top, bottom);
-    huttavel_cursor(from, window->number, &row, &column);
-    if (row >= (uint32_t)plan->rows.length)
-        row = (uint32_t)plan->rows.length - 1;
-    if (column >= (uint32_t)plan->columns.length)
-        column = (uint32_t)plan->columns.length - 1;
-    huttavel_move_cursor(to, number, row, column);
+    if (row >= plan->rows.length)
+        row = plan->rows.length - 1;
+    if (column >= plan->columns.length)
+        column = plan->columns.length - 1;
+    huttavel_move_cursor(to, number, (uint32_t)row, (uint32_t)column);
     huttavel_touch_window(to, number);
 }
 
@@ -203,6 +202,7 @@ static void take_over(SCREEN *screen, huttavel to, const struct again *all, int 
 
     huttavel_close(&screen->handle);
     screen->handle = to;
+    screen->copied = NULL;
     screen->shown->rows = rows;
     screen->rows = rows - screen->above - screen->below;
     screen->columns = screen->shown->columns = columns;

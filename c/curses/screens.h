@@ -7,6 +7,9 @@
 #define PAIRS 256
 #define HELD_PAIRS 64
 
+/* How many characters are added before the handle is given them. */
+#define ADDED 128
+
 /* How many keys ungetch() keeps. */
 #define PUSHED 64
 
@@ -25,6 +28,9 @@
 
 /* How many mouse events wait for getmouse(). */
 #define EVENTS 8
+
+/* The bits of a chtype that are those of a pen. */
+#define PEN (A_COLOR | A_ALTCHARSET | 0x7f00u)
 
 /* The longest text of a key. A report of the mouse is shorter. */
 #define LONGEST_KEY 64
@@ -115,15 +121,20 @@ struct places {
 };
 
 struct huttavel_curses_window {
+    struct huttavel_curses_place cursor; /* what getyx() reads; ERR and ERR of curscr */
     SCREEN *screen;
     WINDOW *next;              /* in the order in which they were made */
     WINDOW *parent;            /* NULL of a window of its own */
     uint32_t number;           /* of the handle */
     int rows, columns;
     int parent_row, parent_column; /* where it begins in its parent; -1 without one */
-    uint8_t attrs;             /* what bytes are written with */
+    attr_t pen;                /* what characters are written with: of these bits, those of PEN; the program's pair */
+    uint8_t attrs;             /* what the handle's window writes with */
     uint32_t pair;
-    bool is_alternate;         /* bytes are written with A_ALTCHARSET */
+    bool has_other_pen;        /* the handle's window was not given the pen yet */
+    bool is_moved;             /* nor the cursor */
+    bool has_moved;            /* the cursor was moved since the window was copied last */
+    bool is_scrolling;         /* scrollok() */
     int ripped;                /* ripoffline(): 1 is the topmost line, 2 the next; -1 is the lowest; 0 otherwise */
     bool is_immediate;         /* immedok() */
     bool is_synced;            /* syncok() */
@@ -132,13 +143,23 @@ struct huttavel_curses_window {
     int row, column;
     bool has_part;             /* of a pad: a part of it was copied to the virtual screen */
     int part[6];               /* what pnoutrefresh() was told last */
-    bool has_moved;            /* the cursor was moved since the window was copied last */
     bool is_keypad;
     bool is_untimed;           /* notimeout() */
     int delay;                 /* how long getch() waits: milliseconds, or -1 */
     bool was_copied;           /* by an update */
+    bool is_marked;            /* one of the marks was set */
     bool is_whole;             /* all places of lines that are touched count as changed */
     struct places marks[LARGEST]; /* otherwise the places of each line that were changed since it was copied */
+};
+
+/* Printable characters that were added to a window side by side, before the last place of a line and with one pen, and
+   that the handle was not given yet. Their places are not marked yet, either. */
+struct added {
+    WINDOW *window;
+    attr_t pen;
+    struct huttavel_curses_place begun;
+    size_t length, room;       /* how many there are, and may be */
+    uint8_t bytes[ADDED];
 };
 
 /* The colour pairs of a program, and those of the handle, of which there are fewer. They have the same numbers until a
@@ -160,6 +181,9 @@ struct huttavel_curses_screen {
     int output;                /* a descriptor */
     WINDOW *windows;           /* all but curscr, the first made first */
     WINDOW *standard, *shown;  /* stdscr and curscr */
+    const WINDOW *copied;      /* the window that was copied last; NULL once the handle was asked for any other thing
+                                  about a window, so that this one may have to be copied again */
+    struct added added;
     bool has_patch;
     uint32_t patch;            /* a pad of the handle of one line, by which parts of lines are copied */
     WINDOW *whole;             /* a window over the whole screen that nothing is written on, or NULL */
@@ -214,10 +238,18 @@ static int answer(uint32_t fault)
     return fault == HUTTAVEL_OK ? OK : ERR;
 }
 
-/* The handle that a window is of; NULL, which each call refuses, without a window. */
+static void settle(const WINDOW *window);
+
+/* The handle that a window is of. It is given now what it was not given yet: characters that were added to any window,
+   and this one's cursor and pen. NULL, which each call refuses, without a window. */
 static huttavel *handle_of(const WINDOW *window)
 {
-    return window ? &window->screen->handle : NULL;
+    if (!window)
+        return NULL;
+    if (window->is_moved || window->has_other_pen || window->screen->added.length > 0)
+        settle(window);
+    window->screen->copied = NULL;
+    return &window->screen->handle;
 }
 
 /* The number of a window; one that each call refuses, without a window. */

@@ -30,7 +30,10 @@ int leaveok(WINDOW *window, bool on)
 
 int scrollok(WINDOW *window, bool on)
 {
-    return answer(huttavel_scroll_ok(handle_of(window), number_of(window), on));
+    if (huttavel_scroll_ok(handle_of(window), number_of(window), on) != HUTTAVEL_OK)
+        return ERR;
+    window->is_scrolling = on;
+    return OK;
 }
 
 int wsetscrreg(WINDOW *window, int top, int bottom)
@@ -73,54 +76,42 @@ void timeout(int milliseconds)
     wtimeout(stdscr, milliseconds);
 }
 
-/* Sets what bytes are written with, and keeps it. */
-static int set_pen(WINDOW *window, uint8_t attrs, uint32_t pair)
+/* Sets what characters are written with. */
+static int set_pen(WINDOW *window, attr_t pen)
 {
-    if (!window)
-        return ERR;
-    if (pair != window->pair) {
-        if (huttavel_color_set(handle_of(window), window->number, pair) != HUTTAVEL_OK)
-            return ERR;
-        window->pair = pair;
-    }
-    if (attrs != window->attrs) {
-        if (huttavel_attr_set(handle_of(window), window->number, attrs) != HUTTAVEL_OK)
-            return ERR;
-        window->attrs = attrs;
-    }
+    window->pen = pen;
+    window->has_other_pen = true;
     return OK;
+}
+
+/* Whether a window can write with a pair. */
+static bool has_pair(const WINDOW *window, int pair)
+{
+    return pair >= 0 && (pair < HELD_PAIRS || pair < pair_limit(window->screen));
 }
 
 int wattr_on(WINDOW *window, attr_t attrs, void *options)
 {
-    uint32_t pair = pair_of(attrs);
+    attr_t pair = pair_in(attrs);
 
     (void)options;
-    if (!window || set_pen(window, window->attrs | attrs_of(attrs), pair ? pair : window->pair) == ERR)
+    if (!window)
         return ERR;
-    if (attrs & A_ALTCHARSET)
-        window->is_alternate = true;
-    return OK;
+    return set_pen(window, (pair ? window->pen & ~A_COLOR : window->pen) | (attrs & ~A_COLOR) | pair);
 }
 
 int wattr_off(WINDOW *window, attr_t attrs, void *options)
 {
     (void)options;
-    if (!window ||
-        set_pen(window, (uint8_t)(window->attrs & ~attrs_of(attrs)), pair_of(attrs) ? 0 : window->pair) == ERR)
+    if (!window)
         return ERR;
-    if (attrs & A_ALTCHARSET)
-        window->is_alternate = false;
-    return OK;
+    return set_pen(window, window->pen & ~(pair_in(attrs) ? attrs | A_COLOR : attrs & ~A_COLOR));
 }
 
 int wattr_set(WINDOW *window, attr_t attrs, short pair, void *options)
 {
     (void)options;
-    if (!window || pair < 0 || set_pen(window, attrs_of(attrs), held_pair(window->screen, pair)) == ERR)
-        return ERR;
-    window->is_alternate = (attrs & A_ALTCHARSET) != 0;
-    return OK;
+    return window && has_pair(window, pair) ? set_pen(window, (attrs & ~A_COLOR) | COLOR_PAIR(pair)) : ERR;
 }
 
 int wattr_get(WINDOW *window, attr_t *attrs, short *pair, void *options)
@@ -129,9 +120,9 @@ int wattr_get(WINDOW *window, attr_t *attrs, short *pair, void *options)
     if (!window)
         return ERR;
     if (attrs)
-        *attrs = (attr_t)window->attrs << 8 | COLOR_PAIR(named_pair(window->screen, window->pair)) | (window->is_alternate ? A_ALTCHARSET : 0);
+        *attrs = window->pen & PEN;
     if (pair)
-        *pair = (short)named_pair(window->screen, window->pair);
+        *pair = (short)PAIR_NUMBER(window->pen);
     return OK;
 }
 
@@ -152,15 +143,19 @@ int wattroff(WINDOW *window, int attrs)
     return wattr_off(window, (attr_t)attrs, NULL);
 }
 
+/* The bits of pairs that there are only after use_default_colors(). */
+#define LATE_PAIRS (A_COLOR & ~COLOR_PAIR(HELD_PAIRS - 1))
+
 int wattrset(WINDOW *window, int attrs)
 {
-    return wattr_set(window, (attr_t)attrs, (short)PAIR_NUMBER(attrs), NULL);
+    if (!window || ((attr_t)attrs & LATE_PAIRS && !has_pair(window, PAIR_NUMBER(attrs))))
+        return ERR;
+    return set_pen(window, (attr_t)attrs);
 }
 
 int wcolor_set(WINDOW *window, short pair, void *options)
 {
-    (void)options;
-    return window && pair >= 0 ? set_pen(window, window->attrs, held_pair(window->screen, pair)) : ERR;
+    return window ? wattr_set(window, window->pen, pair, options) : ERR;
 }
 
 int wstandout(WINDOW *window)

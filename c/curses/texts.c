@@ -110,12 +110,10 @@ static int drop_last(WINDOW *window, const char *line, int length, int row, int 
 static void end_line(WINDOW *window, bool may_scroll)
 {
     int row = getcury(window);
-    bool is_scrolling = false;
 
-    huttavel_is_scroll_ok(handle_of(window), window->number, &is_scrolling);
     if (row < window->rows - 1)
         wmove(window, row + 1, 0);
-    else if (may_scroll && is_scrolling)
+    else if (may_scroll && window->is_scrolling)
         waddch(window, '\n');
     else
         wmove(window, row, 0);

@@ -1,15 +1,80 @@
 /* Making, moving and deleting windows, and their places. */
 
-/* Reads from the handle what is kept beside it of a window: its size, and what bytes are written with. */
+/* Reads from the handle, which was given all, where a window's cursor is. */
+static void read_cursor(WINDOW *window)
+{
+    uint32_t row = 0, column = 0;
+
+    if (huttavel_cursor(&window->screen->handle, window->number, &row, &column) != HUTTAVEL_OK)
+        return;
+    window->cursor.row = (int)row;
+    window->cursor.column = (int)column;
+    window->is_moved = false;
+}
+
+/* Reads from the handle what is kept beside it of a window: its size, its cursor, and what bytes are written with. */
 static void read_window(WINDOW *window)
 {
+    huttavel *handle = &window->screen->handle;
     uint32_t rows = 0, columns = 0;
 
-    huttavel_size(handle_of(window), window->number, &rows, &columns);
-    huttavel_written_attrs(handle_of(window), window->number, &window->attrs, &window->pair);
+    huttavel_size(handle, window->number, &rows, &columns);
+    huttavel_written_attrs(handle, window->number, &window->attrs, &window->pair);
+    read_cursor(window);
     window->rows = (int)rows;
     window->columns = (int)columns;
     window->is_whole = true;
+}
+
+/* Gives the handle's window other attributes and another pair to write with. */
+static void set_held_pen(WINDOW *window, uint8_t attrs, uint32_t pair)
+{
+    huttavel *handle = &window->screen->handle;
+
+    if (pair != window->pair && huttavel_color_set(handle, window->number, pair) == HUTTAVEL_OK)
+        window->pair = pair;
+    if (attrs != window->attrs && huttavel_attr_set(handle, window->number, attrs) == HUTTAVEL_OK)
+        window->attrs = attrs;
+}
+
+/* Gives the handle the characters that were added, and marks their places. */
+static void give_added(SCREEN *screen)
+{
+    struct added *added = &screen->added;
+
+    if (added->length == 0)
+        return;
+    huttavel_add_text(&screen->handle, added->window->number, added->bytes, added->length, NULL);
+    mark(added->window, added->begun.row, added->begun.column, added->begun.column + (int)added->length - 1);
+    added->length = added->room = 0;
+}
+
+/* The handle as handle_of() gives it, but its window has this pen. */
+static huttavel *handle_with(WINDOW *window, attr_t pen)
+{
+    huttavel *handle = &window->screen->handle;
+
+    give_added(window->screen);
+    if (window->is_moved)
+        huttavel_move_cursor(handle, window->number, (uint32_t)window->cursor.row, (uint32_t)window->cursor.column);
+    window->is_moved = false;
+    set_held_pen(window, attrs_of(pen), held_pair(window->screen, PAIR_NUMBER(pen)));
+    window->has_other_pen = pen != window->pen;
+    window->screen->copied = NULL;
+    return handle;
+}
+
+static void settle(const WINDOW *window)
+{
+    handle_with((WINDOW *)window, window->pen);
+}
+
+/* Makes a place of a window that it has its cursor. */
+static void set_place(WINDOW *window, int row, int column)
+{
+    window->cursor.row = row;
+    window->cursor.column = column;
+    window->is_moved = true;
 }
 
 /* Memory for a window, not of the list yet; NULL if memory runs out. */
@@ -22,6 +87,7 @@ static WINDOW *spare_window(SCREEN *screen)
     window->screen = screen;
     window->number = NO_NUMBER;
     window->parent_row = window->parent_column = -1;
+    window->cursor.row = window->cursor.column = ERR;
     window->delay = -1;
     return window;
 }
@@ -39,6 +105,7 @@ static WINDOW *kept_window(WINDOW *window, uint32_t fault)
         end = &(*end)->next;
     *end = window;
     read_window(window);
+    window->pen = (attr_t)window->attrs << 8 | COLOR_PAIR(named_pair(window->screen, window->pair));
     return window;
 }
 
@@ -218,12 +285,12 @@ static int number_read(uint32_t (*read)(huttavel *, uint32_t, uint32_t *, uint32
 
 int getcury(const WINDOW *window)
 {
-    return number_read(huttavel_cursor, window, false);
+    return window ? window->cursor.row : ERR;
 }
 
 int getcurx(const WINDOW *window)
 {
-    return number_read(huttavel_cursor, window, true);
+    return window ? window->cursor.column : ERR;
 }
 
 /* The row of the screen where a window begins, with the lines that are taken off; ERR of a pad. */
@@ -309,15 +376,13 @@ WINDOW *dupwin(WINDOW *window)
     }
     huttavel_background(handle_of(window), window->number, &background);
     huttavel_set_background(handle_of(copy), copy->number, background.byte, background.attrs, background.pair);
-    wattr_set(copy, (attr_t)window->attrs << 8, (short)named_pair(window->screen, window->pair), NULL);
+    wattrset(copy, (int)window->pen);
     huttavel_region(handle_of(window), window->number, &top, &bottom);
     huttavel_set_region(handle_of(copy), copy->number, top, bottom);
-    huttavel_is_scroll_ok(handle_of(window), window->number, &is_on);
-    scrollok(copy, is_on);
+    scrollok(copy, window->is_scrolling);
     huttavel_is_leave_ok(handle_of(window), window->number, &is_on);
     leaveok(copy, is_on);
     wmove(copy, getcury(window), getcurx(window));
-    copy->is_alternate = window->is_alternate;
     copy->is_immediate = window->is_immediate;
     copy->is_synced = window->is_synced;
     copy->is_keypad = window->is_keypad;
