@@ -330,8 +330,8 @@ static int draw_border(WINDOW *window, const chtype pieces[8])
 int wborder(WINDOW *window, chtype left, chtype right, chtype top, chtype bottom, chtype top_left, chtype top_right,
             chtype bottom_left, chtype bottom_right)
 {
-    const chtype defaults[8] = {ACS_VLINE,    ACS_VLINE,    ACS_HLINE,    ACS_HLINE,
-                                ACS_ULCORNER, ACS_URCORNER, ACS_LLCORNER, ACS_LRCORNER};
+    /* The letters of the VT100's set that stand for pieces which are left out. */
+    static const char letters[] = "xxqqlkmj";
     chtype pieces[8] = {left, right, top, bottom, top_left, top_right, bottom_left, bottom_right};
     uint8_t bytes[8];
     chtype all = 0;
@@ -340,12 +340,12 @@ int wborder(WINDOW *window, chtype left, chtype right, chtype top, chtype bottom
     if (!window || is_shown(window))
         return ERR;
     for (n = 0; n < 8; n++) {
-        pieces[n] = or_default(drawn_in(window, pieces[n]), defaults[n]);
+        pieces[n] = or_default(drawn_in(window, pieces[n]), acs_map[(int)letters[n]]);
         bytes[n] = byte_of(pieces[n]);
-        all |= pieces[n] & A_ATTRIBUTES;
+        all |= pieces[n];
     }
-    return changed(window, all ? draw_border(window, pieces)
-                               : answer(huttavel_border(handle_of(window), window->number, bytes)));
+    return changed(window, all & A_ATTRIBUTES ? draw_border(window, pieces)
+                                              : answer(huttavel_border(handle_of(window), window->number, bytes)));
 }
 
 int box(WINDOW *window, chtype vertical, chtype horizontal)

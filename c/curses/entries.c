@@ -184,23 +184,37 @@ static size_t offsets_of(const struct text *entry)
     return numbers_of(entry) + width_of_numbers(entry) * short_at(entry, 6);
 }
 
-/* The string that begins so many bytes behind the last offset, or NULL. */
-static char *string_at(const struct text *entry, size_t strings, unsigned begin)
-{
-    size_t place = strings + begin;
+/* Where the strings of an entry are: behind their offsets, of which there are so many. Each ends at a NUL, so it begins
+   before the last one. */
+struct strings {
+    const struct text *entry;
+    size_t offsets, count, end;
+};
 
-    if (begin > 0x7fff || place >= entry->length || !memchr(entry->bytes + place, '\0', entry->length - place))
-        return NULL;
-    return (char *)entry->bytes + place;
+static struct strings strings_of(const struct text *entry)
+{
+    struct strings strings = {entry, offsets_of(entry), short_at(entry, 8), entry->length};
+
+    while (strings.end > 0 && entry->bytes[strings.end - 1])
+        strings.end--;
+    return strings;
 }
 
-/* The string at a position of an entry, or NULL. */
+/* The string at a position, or NULL. */
+static char *string_at(const struct strings *strings, size_t position)
+{
+    size_t begin = position < strings->count ? short_at(strings->entry, strings->offsets + 2 * position) : 0xffff;
+    size_t place = strings->offsets + 2 * strings->count + begin;
+
+    return begin > 0x7fff || place >= strings->end ? NULL : (char *)strings->entry->bytes + place;
+}
+
+/* The string at a position of a screen's entry, or NULL. */
 static const char *string_of(const SCREEN *screen, unsigned position)
 {
-    const struct text *entry = &screen->entry;
-    size_t offsets = offsets_of(entry), count = short_at(entry, 8);
+    const struct strings strings = strings_of(&screen->entry);
 
-    return position < count ? string_at(entry, offsets + 2 * count, short_at(entry, offsets + 2 * position)) : NULL;
+    return string_at(&strings, position);
 }
 
 /* A padding, as `$<5.5*>`: a pause between bytes of a string (terminfo(5), 'Delays and Padding'). */

@@ -21,12 +21,11 @@ static struct terminal *terminals;
 /* Shows the strings of a terminal, which are in its file. */
 static void show_strings(struct terminal *terminal)
 {
-    const struct text *file = &terminal->file;
-    size_t offsets = offsets_of(file), count = short_at(file, 8), position;
+    const struct strings strings = strings_of(&terminal->file);
+    size_t position;
 
-    for (position = 0; position < count && position < COUNT_OF(terminal->seen.strings); position++)
-        terminal->seen.strings[position] =
-            string_at(file, offsets + 2 * count, short_at(file, offsets + 2 * position));
+    for (position = 0; position < strings.count && position < COUNT_OF(terminal->seen.strings); position++)
+        terminal->seen.strings[position] = string_at(&strings, position);
 }
 
 /* A number of a file: -1 if it is absent. As in the library, a greater one than 32,767 counts as this. */
