@@ -49,8 +49,7 @@ static inline bool follows(const WINDOW *window, attr_t pen)
     return added->window == window && added->pen == pen && !window->is_moved && added->length < added->room;
 }
 
-/* Where simple characters that a window writes with a pen are put: at least one. Nothing follows one after which there
-   is more to do. */
+/* Where simple characters that a window writes with a pen are put: at least one. */
 static struct added *added_to(WINDOW *window, attr_t pen)
 {
     struct added *added = &window->screen->added;
@@ -62,7 +61,7 @@ static struct added *added_to(WINDOW *window, attr_t pen)
     added->window = window;
     added->pen = pen;
     added->begun = window->cursor;
-    added->room = window->is_synced || window->is_immediate ? 1 : left < ADDED ? (size_t)left : ADDED;
+    added->room = left < ADDED ? (size_t)left : ADDED;
     return added;
 }
 
@@ -177,7 +176,8 @@ static int add_marked(WINDOW *window, chtype character)
     return changed_marked(window, done);
 }
 
-/* Most characters follow another one, and take no more than this. */
+/* Most characters follow another one, and take no more than this. None follows in a window whose changes are shown or
+   synchronized at once, which has the handle given them. */
 int waddch(WINDOW *window, const chtype character)
 {
     if (!window || character & A_COLOR || !is_printable(byte_of(character)) ||

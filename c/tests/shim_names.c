@@ -270,6 +270,54 @@ static void copying_what_changed(void)
     IS(OK, delwin(lower));
 }
 
+/* What was written is there for every other call at once: a window that shares it, a copy, a longer text, another pen. */
+static void writing_side_by_side(void)
+{
+    WINDOW *window = newwin(3, 12, 10, 10), *part = derwin(window, 1, 6, 1, 3);
+    int row, column, n;
+
+    IS(OK, wmove(window, 1, 2));
+    for (n = 0; n < 6; n++)
+        IS(OK, waddch(window, (chtype)('a' + n)));
+    getyx(window, row, column);
+    CHECK(row == 1 && column == 8 && getcury(window) == 1 && getcurx(window) == 8);
+    IS('b', mvwinch(part, 0, 0));
+    IS(OK, mvwaddstr(part, 0, 1, "xy"));
+    IS('x', mvwinch(window, 1, 4));
+    /* It is written where the cursor was, with the pen that there was. */
+    IS(OK, wmove(window, 0, 0));
+    IS(OK, waddch(window, 'p'));
+    IS(OK, wattrset(window, A_BOLD | COLOR_PAIR(2)));
+    IS(OK, waddch(window, 'q'));
+    IS(OK, waddch(window, 'r' | A_UNDERLINE));
+    IS(OK, waddch(window, 's' | COLOR_PAIR(3)));
+    IS(OK, wattrset(window, A_NORMAL));
+    IS(OK, waddch(window, 't'));
+    CHECK(has_text(window, 0, 0, "p", 0) && has_text(window, 0, 1, "q", A_BOLD | COLOR_PAIR(2)));
+    CHECK(has_text(window, 0, 2, "r", A_BOLD | A_UNDERLINE | COLOR_PAIR(2)));
+    CHECK(has_text(window, 0, 3, "s", A_BOLD | COLOR_PAIR(3)) && has_text(window, 0, 4, "t", 0));
+    IS(ERR, wattrset(window, COLOR_PAIR(64)));
+    IS(OK, touchwin(window));
+    IS(OK, wnoutrefresh(window));
+    /* A window is copied as it is, also when it was copied before; its cursor is that of the next update. */
+    IS(OK, mvwaddstr(window, 0, 4, "uv"));
+    IS(OK, wnoutrefresh(window));
+    getsyx(row, column);
+    CHECK(row == 10 && column == 16 && shown(10, 15) == 'v');
+    IS(OK, wmove(window, 2, 5));
+    IS(OK, wnoutrefresh(window));
+    IS(OK, wnoutrefresh(window));
+    getsyx(row, column);
+    CHECK(row == 12 && column == 15);
+    /* In a last line below the lines that scroll, a text begins the line again. */
+    IS(OK, wsetscrreg(window, 0, 1));
+    IS(OK, mvwaddstr(window, 2, 9, "ABCDE"));
+    IS(OK, wnoutrefresh(window));
+    CHECK(shown(12, 10) == 'D' && shown(12, 11) == 'E' && shown(12, 12) == ' ' && shown(12, 21) == 'C');
+    IS(OK, delwin(part));
+    IS(OK, delwin(window));
+}
+
 static void placing_the_cursor(void)
 {
     int row = 7, column = 7;
@@ -906,6 +954,7 @@ int main(void)
     drawing();
     following_changes();
     copying_what_changed();
+    writing_side_by_side();
     placing_the_cursor();
     echoing_in_pads();
     naming_keys();
