@@ -109,6 +109,7 @@ static int copy_over_edge(WINDOW *window)
 int wnoutrefresh(WINDOW *window)
 {
     int done;
+    bool is_fresh;
 
     if (!window)
         return ERR;
@@ -118,18 +119,20 @@ int wnoutrefresh(WINDOW *window)
     }
     if (window->screen->copied == window && !window->is_moved)
         return OK;
+    is_fresh = window->is_fresh;
     /* Before the marks are looked at. */
     handle_of(window);
     window->has_moved = false;
     window->was_copied = true;
     if (window->is_over)
         done = copy_over_edge(window);
-    else if (!window->is_whole && has_neighbours(window))
+    else if (!is_fresh && !window->is_whole && has_neighbours(window))
         done = copy_marked(window);
     else
         done = answer(huttavel_noutrefresh(handle_of(window), window->number));
     if (done == OK) {
         unmark(window);
+        window->is_fresh = true;
         window->screen->copied = window;
     }
     return done;

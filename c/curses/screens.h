@@ -147,6 +147,7 @@ struct huttavel_curses_window {
     bool is_untimed;           /* notimeout() */
     int delay;                 /* how long getch() waits: milliseconds, or -1 */
     bool was_copied;           /* by an update */
+    bool is_fresh;             /* it was copied, and the handle was asked for nothing about it since */
     bool is_marked;            /* one of the marks was set */
     bool is_whole;             /* all places of lines that are touched count as changed */
     struct places marks[LARGEST]; /* otherwise the places of each line that were changed since it was copied */
@@ -240,6 +241,13 @@ static int answer(uint32_t fault)
 
 static void settle(const WINDOW *window);
 
+/* The handle is asked for something about a window, which may have to be copied again then. */
+static inline void note_call(const WINDOW *window)
+{
+    ((WINDOW *)window)->is_fresh = false;
+    window->screen->copied = NULL;
+}
+
 /* The handle that a window is of. It is given now what it was not given yet: characters that were added to any window,
    and this one's cursor and pen. NULL, which each call refuses, without a window. */
 static huttavel *handle_of(const WINDOW *window)
@@ -248,7 +256,7 @@ static huttavel *handle_of(const WINDOW *window)
         return NULL;
     if (window->is_moved || window->has_other_pen || window->screen->added.length > 0)
         settle(window);
-    window->screen->copied = NULL;
+    note_call(window);
     return &window->screen->handle;
 }
 

@@ -60,7 +60,7 @@ static huttavel *handle_with(WINDOW *window, attr_t pen)
     window->is_moved = false;
     set_held_pen(window, attrs_of(pen), held_pair(window->screen, PAIR_NUMBER(pen)));
     window->has_other_pen = pen != window->pen;
-    window->screen->copied = NULL;
+    note_call(window);
     return handle;
 }
 
