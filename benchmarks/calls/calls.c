@@ -1,0 +1,177 @@
+/* Makes one small call of curses.h again and again, 60 calls for each time.
+   Usage: calls CALL TIMES */
+#include <curses.h>
+#include <stdio.h>
+#include <stdlib.h>
+#include <string.h>
+
+/* How many calls one time is. */
+#define CALLS 60
+
+static const char forty[] = "The quick brown fox jumps over the dog..";
+static volatile int seen;
+
+static void ask_cursor(void)
+{
+    int row, column, n;
+
+    for (n = 0; n < CALLS; n++) {
+        getyx(stdscr, row, column);
+        seen = row;
+        seen = column;
+    }
+}
+
+static void set_attributes(void)
+{
+    int n;
+
+    for (n = 0; n < CALLS; n++)
+        attrset(n % 2 ? A_BOLD : A_REVERSE);
+}
+
+static void set_pairs(void)
+{
+    int n;
+
+    for (n = 0; n < CALLS; n++)
+        attrset(COLOR_PAIR(1 + n % 2) | A_BOLD);
+}
+
+static void read_cell(void)
+{
+    int n;
+
+    for (n = 0; n < CALLS; n++)
+        seen = (int)inch();
+}
+
+static void move_cursor(void)
+{
+    int n;
+
+    for (n = 0; n < CALLS; n++)
+        move(n % 16, n);
+}
+
+/* The move before what is added, by itself. */
+static void begin_line(void)
+{
+    move(5, 3);
+}
+
+static void add_characters(void)
+{
+    int n;
+
+    begin_line();
+    for (n = 0; n < CALLS; n++)
+        addch('a' + n % 16);
+}
+
+static void add_words(void)
+{
+    int n;
+
+    for (n = 0; n < CALLS; n++) {
+        if (n % 15 == 0)
+            begin_line();
+        addstr("hello");
+    }
+}
+
+static void add_texts(void)
+{
+    int n;
+
+    for (n = 0; n < CALLS; n++) {
+        begin_line();
+        addstr(forty);
+    }
+}
+
+static void copy_nothing(void)
+{
+    int n;
+
+    for (n = 0; n < CALLS; n++)
+        wnoutrefresh(stdscr);
+}
+
+static void copy_in_turn(void)
+{
+    static WINDOW *other;
+    int n;
+
+    if (!other)
+        other = newwin(0, 0, 0, 0);
+    for (n = 0; n < CALLS; n++)
+        wnoutrefresh(n % 2 ? other : stdscr);
+}
+
+static void show_nothing(void)
+{
+    int n;
+
+    for (n = 0; n < CALLS; n++)
+        refresh();
+}
+
+static void erase_all(void)
+{
+    int n;
+
+    for (n = 0; n < CALLS; n++)
+        erase();
+}
+
+static void draw_box(void)
+{
+    int n;
+
+    for (n = 0; n < CALLS; n++)
+        box(stdscr, 0, 0);
+}
+
+static void erase_line(void)
+{
+    int n;
+
+    for (n = 0; n < CALLS; n++)
+        clrtoeol();
+}
+
+static const struct {
+    const char *name;
+    void (*make)(void);
+} calls[] = {
+    {"getyx", ask_cursor},   {"attrset", set_attributes}, {"pair", set_pairs},      {"inch", read_cell},
+    {"move", move_cursor},   {"addch", add_characters},   {"addstr5", add_words},   {"addstr40", add_texts},
+    {"begin", begin_line},   {"wnoutrefresh", copy_nothing}, {"turn", copy_in_turn}, {"refresh", show_nothing},
+    {"erase", erase_all},    {"box", draw_box},       {"clrtoeol", erase_line},
+};
+
+int main(int argc, char **argv)
+{
+    size_t n = 0, count = sizeof calls / sizeof *calls;
+    long times;
+    int row;
+
+    while (argc == 3 && n < count && strcmp(calls[n].name, argv[1]) != 0)
+        n++;
+    if (argc != 3 || n == count || !newterm("xterm", fopen("/dev/null", "w"), fopen("/dev/null", "r")))
+        return 2;
+    /* Nobody types: what can be read of the input ends no update. */
+    typeahead(-1);
+    start_color();
+    init_pair(1, COLOR_RED, COLOR_BLUE);
+    init_pair(2, COLOR_GREEN, COLOR_BLUE);
+    /* A screen of text: ncurses looks through the blank lines at the end of one in each update. */
+    for (row = 0; row < LINES; row++)
+        mvaddstr(row, 0, forty);
+    move(10, 5);
+    refresh();
+    for (times = atol(argv[2]); times > 0; times--)
+        calls[n].make();
+    return 0;
+}

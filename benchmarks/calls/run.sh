@@ -1,0 +1,74 @@
+#!/bin/sh
+# Counts the processor instructions of small calls of curses.h, and of a program that only starts and ends, over this
+# library and over ncurses: the same C sources on both sides, compiled as programs are, for 24x80 of the entry xterm,
+# written to /dev/null.
+# A call's figure is that of the call with the loop around it, from the difference of 12 times and 2 times 60 calls on a
+# screen of text that was shown. What is added begins with a move, which is counted by itself and taken away. The whole
+# of the program that starts is counted, with what the system does to load it, also over an ncurses that is linked in.
+# It needs valgrind, a C compiler, libncurses-dev, ncurses-base, and libhuttavel.a in c/, which make builds there.
+# Usage: benchmarks/calls/run.sh, from the top of the repository.
+set -e
+here=$(dirname "$0")
+top=$here/../..
+[ -e "$top/c/libhuttavel.a" ] || { sed -n 's/^# Usage: /usage: /p' "$0" >&2; exit 2; }
+folder=$(mktemp -d)
+trap 'rm -rf "$folder"' EXIT
+make -s -C "$top/c" curses
+for program in calls start; do
+    cc -O2 -I "$top/c" -I "$top/include" -o "$folder/$program" "$here/$program.c" \
+        "$top/c/out/libhuttavel_curses.a" "$top/c/libhuttavel.a"
+    cc -O2 -o "$folder/$program-ncurses" "$here/$program.c" -lncurses -ltinfo
+done
+cc -O2 -o "$folder/start-static" "$here/start.c" -Wl,-Bstatic -lncurses -ltinfo -Wl,-Bdynamic
+export LINES=24 COLUMNS=80 TERM=xterm
+
+# The instructions of a command.
+count() {
+    valgrind --tool=callgrind --callgrind-out-file=/dev/null "$@" 2>&1 >/dev/null </dev/null | sed -n 's/.*Collected : //p'
+}
+
+# The instructions of 600 calls.
+calls() {
+    few=$(count "$1" "$2" 2)
+    many=$(count "$1" "$2" 12)
+    echo $((many - few))
+}
+
+# A hundredth of a whole number, with its digits behind the point, and a sixtieth of a tenth.
+hundredths() { echo "$(($1 / 100)).$(($1 / 10 % 10))$(($1 % 10))"; }
+each() { echo "$(($1 / 600)).$(($1 % 600 / 60))"; }
+
+# row CALL WORDS MOVES: a line of the table, of a call with so many moves in 60 calls.
+row() {
+    ours=$(($(calls "$folder/calls" "$1") - $3 * our_move))
+    theirs=$(($(calls "$folder/calls-ncurses" "$1") - $3 * their_move))
+    echo "| $2 | $(each $ours) | $(each $theirs) | $(hundredths $(((100 * ours + theirs / 2) / theirs))) |"
+}
+
+our_move=$(calls "$folder/calls" begin)
+their_move=$(calls "$folder/calls-ncurses" begin)
+echo "| Call | Ours | ncurses | Ratio |"
+echo "|---|---|---|---|"
+row getyx '`getyx`' 0
+row attrset '`attrset`' 0
+row pair '`attrset` with a colour pair' 0
+row inch '`inch`' 0
+row move '`move`' 0
+row addch '`addch`' 1
+row addstr5 '`addstr` of 5 characters' 4
+row addstr40 '`addstr` of 40 characters' 60
+row wnoutrefresh '`wnoutrefresh`, nothing changed' 0
+row turn '`wnoutrefresh` of two windows in turn, nothing changed' 0
+row refresh '`refresh`, nothing changed' 0
+row erase '`erase`' 0
+row box '`box`' 0
+row clrtoeol '`clrtoeol`' 0
+echo
+
+ours=$(count "$folder/start")
+shared=$(count "$folder/start-ncurses")
+linked=$(count "$folder/start-static")
+echo "| | Ours | ncurses, shared | Ratio | ncurses, linked in | Ratio |"
+echo "|---|---|---|---|---|---|"
+echo "| a program that starts and ends | $ours | $shared | $(hundredths $(((100 * ours + shared / 2) / shared)))" \
+    "| $linked | $(hundredths $(((100 * ours + linked / 2) / linked))) |"
