@@ -24,7 +24,8 @@ export LINES=24 COLUMNS=80 TERM=xterm
 
 # The instructions of a command.
 count() {
-    valgrind --tool=callgrind --callgrind-out-file=/dev/null "$@" 2>&1 >/dev/null </dev/null | sed -n 's/.*Collected : //p'
+    valgrind --tool=callgrind --callgrind-out-file=/dev/null "$@" 2>&1 >/dev/null </dev/null |
+        sed -n 's/.*Collected : //p'
 }
 
 # The instructions of 600 calls.
