@@ -7,8 +7,8 @@ ghost use Rattle.scr_plan.specs.Code.Scenes.{IsScene};
 use crate::scenes::Scene;
 use crate::strokes::Draft;
 use scr_cells::{Attrs, NoMemory, Pen};
-use scr_prices::{Chooser, Motion, Path, Steps, Target, Turn, cheapest_turn};
-use scr_term::{Op, Profile};
+use scr_prices::{Chooser, Motion, Path, Target, Turn, cheapest_motion, cheapest_turn};
+use scr_term::{Op, Profile, Spot};
 
 impl Draft {
     // Adds a motion, if there is one and it is defined from here.
@@ -32,7 +32,7 @@ impl Draft {
         Ok(())
     }
 
-    // Follows a motion to a place, with a plain pen if motions need one.
+    // Follows a motion to a place, unless the cursor is there; with a plain pen if motions need one.
     pub(crate) fn move_by(
         &mut self,
         profile: &Profile,
@@ -42,14 +42,20 @@ impl Draft {
     ) -> Result<(), NoMemory>
         ensures { OnOk result (KeepsEvery profile.now self.old self.new) }
     {
-        if motion.is_none() {
+        if self.spot == Spot::At(row, column) {
             return Ok(());
         }
         self.get_plain_to_move(profile)?;
-        if motion.is_direct() {
-            return self.go(profile, Op::Move(row, column));
-        }
-        self.take(profile, motion.steps(self.spot, row, column))
+        self.take(profile, motion)
+    }
+
+    // Adds the operations of a motion.
+    fn take(&mut self, profile: &Profile, motion: Motion) -> Result<(), NoMemory>
+        ensures { OnOk result (KeepsEvery profile.now self.old self.new) }
+    {
+        self.go_if(profile, motion.first)?;
+        self.go_if(profile, motion.second)?;
+        self.go_times(profile, motion.last, motion.times)
     }
 
     // Turns attributes off and makes colours default, if motions need that.
@@ -60,23 +66,6 @@ impl Draft {
             return Ok(());
         }
         self.turn_to(profile, Pen::plain())
-    }
-
-    // Adds the operations of a motion.
-    fn take(&mut self, profile: &Profile, steps: Steps) -> Result<(), NoMemory>
-        ensures { OnOk result (KeepsEvery profile.now self.old self.new) }
-    {
-        self.go_if(profile, steps.first)?;
-        self.go_if(profile, steps.rows)?;
-        self.take_along_row(profile, steps)
-    }
-
-    // Adds those of them that lead along the row.
-    fn take_along_row(&mut self, profile: &Profile, steps: Steps) -> Result<(), NoMemory>
-        ensures { OnOk result (KeepsEvery profile.now self.old self.new) }
-    {
-        self.go_times(profile, steps.columns, steps.times)?;
-        self.go_if(profile, steps.after)
     }
 
     // Turns to a pen by the cheapest turn.
@@ -198,22 +187,18 @@ impl Draft {
         ensures { OnOk result (KeepsAll scene.now.profile.now scene.now.picture.now self.old self.new) }
     {
         match path {
-            Path::Moving(motion) => { self.move_and_turn(scene, motion, to) }
+            Path::Moving => { self.move_and_turn(scene, to) }
             Path::Writing(from) => { self.write_and_turn(scene, to, from) }
-            Path::MovingToWrite(motion) => { self.move_and_write(scene, motion, to) }
+            Path::MovingToWrite => { self.move_and_write(scene, to) }
         }
     }
 
-    // By a motion and a turn.
-    fn move_and_turn(
-        &mut self,
-        scene: &Scene<'_>,
-        motion: Motion,
-        to: &Target,
-    ) -> Result<(), NoMemory>
+    // By the cheapest motion and a turn.
+    fn move_and_turn(&mut self, scene: &Scene<'_>, to: &Target) -> Result<(), NoMemory>
         ensures { OnOk result (KeepsAll scene.now.profile.now scene.now.picture.now self.old self.new) }
     {
         let _size = scene.picture.size();
+        let motion = cheapest_motion(scene.profile.prices(), self.spot, to.row, to.column);
         self.move_by(scene.profile, motion, to.row, to.column)?;
         self.turn_to(scene.profile, to.pen)
     }
@@ -231,19 +216,14 @@ impl Draft {
     }
 
     // By a motion, a turn, and writing the places of the row before it.
-    fn move_and_write(
-        &mut self,
-        scene: &Scene<'_>,
-        motion: Motion,
-        to: &Target,
-    ) -> Result<(), NoMemory>
+    fn move_and_write(&mut self, scene: &Scene<'_>, to: &Target) -> Result<(), NoMemory>
         requires scene { IsScene scene.now }
         requires row { to.now.row < scene.now.picture.now.rows }
         requires column { to.now.column < scene.now.picture.now.columns }
         ensures { OnOk result (KeepsAll scene.now.profile.now scene.now.picture.now self.old self.new) }
     {
         let _size = scene.picture.size();
-        self.move_and_turn(scene, motion, &Target { column: 0, ..*to })?;
+        self.move_and_turn(scene, &Target { column: 0, ..*to })?;
         self.write(scene, to.row, 0, to.column)
     }
 }

@@ -1,41 +1,8 @@
-//! What a row costs over blanks, and about what the places cost that differ between two rows.
+//! About what the places cost that differ between two rows of looks.
 
 use crate::ways::Chooser;
-use scr_cells::{Cell, Look};
+use scr_cells::Look;
 use scr_term::Op;
-
-impl Chooser<'_> {
-    // The price of a row over a blank one: its places that are not blank, plus an easy motion if
-    // there are any.
-    pub(crate) fn price_of_row(&self, row: u32) -> u32 {
-        let mut places = 0u32;
-        let mut unsure = 0u32;
-        let cells = self.cells(row);
-        for cell in cells {
-            let is_other = *cell != Cell::blank();
-            places = places.wrapping_add(u32::from(is_other));
-            unsure = unsure.wrapping_add(u32::from(is_other & (cell.byte() == b' ')));
-        }
-        if unsure > 0 {
-            places = places.saturating_sub(self.blanks_among(cells));
-        }
-        if places == 0 {
-            return 0;
-        }
-        places.saturating_add(self.jump)
-    }
-
-    // How many cells look blank, though they are not.
-    fn blanks_among(&self, cells: &[Cell]) -> u32 {
-        let mut blanks = 0u32;
-        for cell in cells {
-            if *cell != Cell::blank() && cell.byte() == b' ' && self.pen_of(*cell).is_plain() {
-                blanks = blanks.saturating_add(1);
-            }
-        }
-        blanks
-    }
-}
 
 // How a row of looks becomes another: how many places differ, how many of these become blank, and
 // how many places are not blank then.

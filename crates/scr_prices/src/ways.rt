@@ -1,9 +1,9 @@
 //! The cheapest way to a place with a pen: by a motion and a turn, or by writing places with what
 //! they are to show.
 
-use crate::motions::{Motion, cheapest_motion};
+use crate::motions::places::Place;
+use crate::motions::turns::cheapest_turn;
 use crate::runs::{How, Run};
-use crate::turns::cheapest_turn;
 use scr_cells::{Attrs, Cell, Pen, Picture};
 use scr_term::{Op, Prices, Profile, Spot};
 
@@ -41,12 +41,12 @@ impl Cursor {
 #[derive(Clone, Copy)]
 pub enum Path {
     /// Move to the place, then turn to the pen.
-    Moving(Motion),
+    Moving,
     /// Write the places of the row from this column on with the current pen, then turn to the pen.
     Writing(u32),
     /// Move to the first column of the row, turn to the pen, and write the places before the place
     /// with it.
-    MovingToWrite(Motion),
+    MovingToWrite,
 }
 
 /// A path, and how many bytes it has.
@@ -67,14 +67,12 @@ pub struct Stop {
     pub way: Option<Way>,
 }
 
-impl Way {
-    // The cheaper of two ways; this one if they cost the same.
-    fn or(self, other: Option<Way>) -> Way {
-        match other {
-            Some(other) if other.price < self.price => other,
-            _ => self,
-        }
-    }
+// Where a way leads: to a place, with a pen, to which the turn from the pen that is on has a price.
+#[derive(Clone, Copy)]
+pub(crate) struct Goal<'a> {
+    pub(crate) place: &'a Place,
+    pub(crate) pen: Pen,
+    pub(crate) turn: u32,
 }
 
 /// What choices need to know of a profile and a picture, fetched once.
@@ -109,31 +107,43 @@ impl<'a> Chooser<'a> {
 
     /// The cheapest way to a place with a pen.
     pub fn way(&self, cursor: &Cursor, to: &Target) -> Way {
-        let moving = self.moving(cursor, to);
-        if cursor.row() == to.row {
-            moving.or(self.writing(cursor, to, moving.price))
+        let place = Place::of(self.prices, to.row, to.column);
+        let goal = Goal {
+            place: &place,
+            pen: to.pen,
+            turn: self.price_of_turn(cursor.pen, to.pen),
+        };
+        self.way_to(cursor, &goal, u32::MAX)
+    }
+
+    // The cheapest way to a goal: by a motion and a turn, unless writing places costs less. If its
+    // price is not below the limit, it may be any other way whose price is not.
+    #[inline(always)]
+    pub(crate) fn way_to(&self, cursor: &Cursor, goal: &Goal<'_>, limit: u32) -> Way {
+        let motion = goal
+            .place
+            .price_from(self.prices, cursor.spot, limit.saturating_sub(goal.turn));
+        let price = self.price_of_moving(cursor, motion, goal);
+        let by_writing = if cursor.row() == goal.place.row {
+            self.writing(cursor, goal, price)
         } else {
-            moving.or(self.moving_to_write(cursor, to, moving.price))
-        }
+            self.moving_to_write(cursor, goal, price)
+        };
+        by_writing.unwrap_or(Way {
+            path: Path::Moving,
+            price,
+        })
     }
 
-    // By a motion and a turn.
-    fn moving(&self, cursor: &Cursor, to: &Target) -> Way {
-        let motion = cheapest_motion(self.prices, cursor.spot, to.row, to.column);
-        Way {
-            path: Path::Moving(motion),
-            price: self.price_of_moving(cursor.pen, motion, to.pen),
+    // The price of a motion and the goal's turn, with the turn that may be needed before the motion.
+    #[inline(always)]
+    fn price_of_moving(&self, cursor: &Cursor, motion: u32, goal: &Goal<'_>) -> u32 {
+        if self.moves_in_any_rendition || cursor.pen.is_plain() || motion == 0 {
+            return motion.saturating_add(goal.turn);
         }
-    }
-
-    // The price of a motion and a turn, with the turn that may be needed before the motion.
-    fn price_of_moving(&self, now: Pen, motion: Motion, pen: Pen) -> u32 {
-        if self.moves_in_any_rendition || now.is_plain() || motion.is_none() {
-            return motion.price.saturating_add(self.price_of_turn(now, pen));
-        }
-        self.price_of_turn(now, Pen::plain())
-            .saturating_add(motion.price)
-            .saturating_add(self.price_of_turn(Pen::plain(), pen))
+        self.price_of_turn(cursor.pen, Pen::plain())
+            .saturating_add(motion)
+            .saturating_add(self.price_of_turn(Pen::plain(), goal.pen))
     }
 
     // The price of the cheapest turn from one pen to another.
@@ -155,15 +165,17 @@ impl<'a> Chooser<'a> {
     }
 
     // By writing the places of the row in between, if this costs less than the limit.
-    fn writing(&self, cursor: &Cursor, to: &Target, limit: u32) -> Option<Way> {
+    #[inline(always)]
+    fn writing(&self, cursor: &Cursor, goal: &Goal<'_>, limit: u32) -> Option<Way> {
+        let (row, column) = (goal.place.row, goal.place.column);
         let Spot::At(_, from) = cursor.spot else {
             return None;
         };
-        if from >= to.column || to.column - from >= limit {
+        if from >= column {
             return None;
         }
-        let price = (to.column - from).saturating_add(self.price_of_turn(cursor.pen, to.pen));
-        if price >= limit || !self.are_seen_with(cursor.pen, to.row, from, to.column) {
+        let price = (column - from).saturating_add(goal.turn);
+        if price >= limit || !self.are_seen_with(cursor.pen, row, from, column) {
             return None;
         }
         Some(Way {
@@ -173,19 +185,22 @@ impl<'a> Chooser<'a> {
     }
 
     // By writing the places before it in its row, if this costs less than the limit.
-    fn moving_to_write(&self, cursor: &Cursor, to: &Target, limit: u32) -> Option<Way> {
-        if to.column == 0 || to.column > self.jump || to.column >= limit {
+    #[inline(always)]
+    fn moving_to_write(&self, cursor: &Cursor, goal: &Goal<'_>, limit: u32) -> Option<Way> {
+        let (row, column) = (goal.place.row, goal.place.column);
+        if column == 0 || column > self.jump || column >= limit {
             return None;
         }
-        let motion = cheapest_motion(self.prices, cursor.spot, to.row, 0);
+        let first = Place::of(self.prices, row, 0);
+        let motion = first.price_from(self.prices, cursor.spot, limit);
         let price = self
-            .price_of_moving(cursor.pen, motion, to.pen)
-            .saturating_add(to.column);
-        if price >= limit || !self.are_seen_with(to.pen, to.row, 0, to.column) {
+            .price_of_moving(cursor, motion, goal)
+            .saturating_add(column);
+        if price >= limit || !self.are_seen_with(goal.pen, row, 0, column) {
             return None;
         }
         Some(Way {
-            path: Path::MovingToWrite(motion),
+            path: Path::MovingToWrite,
             price,
         })
     }

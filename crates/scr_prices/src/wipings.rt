@@ -1,9 +1,7 @@
 //! From which row on many lines are to be erased at once, before anything is painted, if that is worth it.
 
-use crate::blanks::is_blank;
-use crate::orders::run_at;
+use crate::blanks::{is_blank, price_on_blanks};
 use crate::runs::Run;
-use crate::stretches::{least_on_blanks, price_on_blanks};
 use crate::ways::{Chooser, Cursor, Target};
 use scr_cells::Pen;
 use scr_term::Op;
@@ -27,53 +25,53 @@ pub fn cheapest_wiping(chooser: &Chooser<'_>, cursor: &Cursor, runs: &[Run]) -> 
     if differing < 2 || !may_gain(chooser, runs) {
         return None;
     }
-    let first = run_at(runs, 0).row;
+    let mut best = None;
+    let mut most = WORTH;
+    let mut walk = Upwards::from_end(runs);
     let rows = chooser.picture.size().rows;
-    let mut walk = Upwards::from(runs.len());
     for below in 0..rows {
         let row = rows - 1 - below;
-        if row < first {
-            return walk.best;
+        if walk.left == 0 || !walk.meets(chooser, row, differing) {
+            return best;
         }
-        let Some(next) = walk.with_row(chooser, runs, row, differing) else {
-            return walk.best;
-        };
-        walk = next.with_candidate(chooser, cursor, row);
+        if walk.spared > most {
+            let (by, price) = erasure(chooser, cursor, row);
+            let gain = walk.spared.saturating_sub(i64::from(price));
+            if gain > most {
+                best = Some(Wiping { top: row, by });
+                most = gain;
+            }
+        }
     }
-    walk.best
+    best
 }
 
-// Whether some erasure can gain more than it has to: the runs cost enough as they stand, and from
-// some row on enough more than on blank rows.
+// How many rows have runs. The runs are by rows.
+fn rows_with_runs(runs: &[Run]) -> u32 {
+    let mut rows = 0u32;
+    let mut last = None;
+    for run in runs {
+        if last != Some(run.row) {
+            rows = rows.saturating_add(1);
+            last = Some(run.row);
+        }
+    }
+    rows
+}
+
+// Whether some erasure can gain more than it has to: from some row on the runs cost enough more as
+// they stand than on blank rows, even if each row is one stretch there.
 fn may_gain(chooser: &Chooser<'_>, runs: &[Run]) -> bool {
     let lost = least_lost(chooser);
-    let price = price_as_they_stand(chooser, runs);
-    price > lost && may_spare(chooser, runs, price, lost)
-}
-
-// The price of the runs as they stand, plus an easy motion for each.
-fn price_as_they_stand(chooser: &Chooser<'_>, runs: &[Run]) -> i64 {
-    let mut sum = 0i64;
-    for run in runs {
-        sum = sum.saturating_add(i64::from(chooser.price_as_it_stands(run)));
-    }
-    sum
-}
-
-// Whether an erasure can save more than `lost`: the price of the runs as they stand from some row
-// on, less the least that each row with runs costs on a blank row. `price` is that of all runs.
-fn may_spare(chooser: &Chooser<'_>, runs: &[Run], price: i64, lost: i64) -> bool {
-    let mut left = price;
+    let mut left = price_as_they_stand(chooser, runs);
     let mut spared = 0i64;
     let mut row = None;
-    for after in 0..runs.len() {
-        let run = &runs[runs.len() - 1 - after];
+    for run in runs.iter().rev() {
         if row != Some(run.row) {
             if spared.saturating_add(left) <= lost {
                 return false;
             }
-            let least = least_on_blanks(chooser, chooser.cells(run.row));
-            spared = spared.saturating_sub(i64::from(least));
+            spared = spared.saturating_sub(i64::from(chooser.price_of_row(run.row)));
             row = Some(run.row);
         }
         let price = i64::from(chooser.price_as_it_stands(run));
@@ -92,122 +90,85 @@ fn least_lost(chooser: &Chooser<'_>) -> i64 {
     i64::from(below.min(chooser.prices.of(Op::Clear))).saturating_add(WORTH)
 }
 
-// How many rows have runs. The runs are by rows.
-fn rows_with_runs(runs: &[Run]) -> u32 {
-    let mut rows = 0u32;
-    let mut last = None;
+// The price of the runs as they stand, plus an easy motion for each.
+fn price_as_they_stand(chooser: &Chooser<'_>, runs: &[Run]) -> i64 {
+    let mut sum = 0i64;
     for run in runs {
-        if last != Some(run.row) {
-            rows = rows.saturating_add(1);
-            last = Some(run.row);
-        }
+        sum = sum.saturating_add(i64::from(chooser.price_as_it_stands(run)));
     }
-    rows
+    sum
 }
 
-// A walk upwards over rows: how many runs are left, how many rows without runs it met, what erasing
-// the rows it met saves, and the best row so far with what its erasure gains.
+// A walk upwards over rows: the runs, how many are left, how many rows without runs it met, and what
+// erasing the rows that it met saves.
 #[derive(Clone, Copy)]
-struct Upwards {
-    left: u32,
+struct Upwards<'a> {
+    runs: &'a [Run],
+    left: usize,
     others: u32,
     spared: i64,
-    best: Option<Wiping>,
-    gain: i64,
 }
 
-impl Upwards {
+impl<'a> Upwards<'a> {
     // No row was met yet.
-    fn from(count: usize) -> Upwards {
+    fn from_end(runs: &'a [Run]) -> Upwards<'a> {
         Upwards {
-            left: count.min(u32::MAX as usize) as u32,
+            runs,
+            left: runs.len(),
             others: 0,
             spared: 0,
-            best: None,
-            gain: WORTH,
         }
     }
 
-    // Meets one more row. `None` if the walk ends: at a row that shows something and does not
-    // differ, or once it met more rows that do not differ than differ at all.
-    fn with_row(
-        self,
-        chooser: &Chooser<'_>,
-        runs: &[Run],
-        row: u32,
-        differing: u32,
-    ) -> Option<Upwards> {
+    // Meets one more row. Returns whether the walk goes on: it ends at a row that shows something and
+    // does not differ, and once it met more rows that do not differ than differ at all.
+    fn meets(&mut self, chooser: &Chooser<'_>, row: u32, differing: u32) -> bool {
         let cells = chooser.cells(row);
-        let mut walk = self.with_runs(chooser, runs, row);
-        if walk.left < self.left {
-            walk.spared = walk
-                .spared
-                .saturating_sub(i64::from(price_on_blanks(chooser, cells)));
-            return Some(walk);
+        let left = self.left;
+        self.take_runs(chooser, row);
+        if self.left < left {
+            let price = price_on_blanks(chooser, cells);
+            self.spared = self.spared.saturating_sub(i64::from(price));
+            return true;
         }
-        walk.others = walk.others.saturating_add(1);
-        if walk.others > differing || !is_blank(chooser, cells) {
-            return None;
-        }
-        Some(walk)
+        self.others = self.others.saturating_add(1);
+        self.others <= differing && is_blank(chooser, cells)
     }
 
-    // Meets the runs of a row, the last ones that are left.
-    fn with_runs(self, chooser: &Chooser<'_>, runs: &[Run], row: u32) -> Upwards {
-        let mut walk = self;
-        for _ in 0..runs.len() {
-            if walk.left == 0 {
-                return walk;
-            }
-            let run = run_at(runs, walk.left - 1);
+    // Takes the runs of a row, the last ones that are left.
+    fn take_runs(&mut self, chooser: &Chooser<'_>, row: u32) {
+        for _ in 0..self.left {
+            let Some(run) = self.runs.get(self.left.saturating_sub(1)) else {
+                return;
+            };
             if run.row != row {
-                return walk;
+                return;
             }
-            walk.left -= 1;
-            walk.spared = walk
-                .spared
-                .saturating_add(i64::from(chooser.price_as_it_stands(&run)));
+            self.left = self.left.saturating_sub(1);
+            let price = chooser.price_as_it_stands(run);
+            self.spared = self.spared.saturating_add(i64::from(price));
         }
-        walk
-    }
-
-    // Makes the row that was met last the best one, if its erasure gains more than all before.
-    fn with_candidate(self, chooser: &Chooser<'_>, cursor: &Cursor, row: u32) -> Upwards {
-        if self.spared <= self.gain {
-            return self;
-        }
-        let (by, price) = erasure(chooser, cursor, row);
-        let gain = self.spared.saturating_sub(i64::from(price));
-        if gain <= self.gain {
-            return self;
-        }
-        let mut walk = self;
-        walk.best = Some(Wiping { top: row, by });
-        walk.gain = gain;
-        walk
     }
 }
 
 // The cheapest erasure of a row and all below it, and its price together with what leads to it.
 fn erasure(chooser: &Chooser<'_>, cursor: &Cursor, row: u32) -> (Op, u32) {
+    let plain = Pen::plain();
     let way = chooser.way(
         cursor,
         &Target {
             row,
             column: 0,
-            pen: Pen::plain(),
+            pen: plain,
         },
     );
-    let price = way.price.saturating_add(chooser.prices.of(Op::EraseBelow));
-    if row > 0 {
-        return (Op::EraseBelow, price);
-    }
-    let price_of_clear = chooser
-        .price_of_turn(cursor.pen, Pen::plain())
+    let below = way.price.saturating_add(chooser.prices.of(Op::EraseBelow));
+    let clear = chooser
+        .price_of_turn(cursor.pen, plain)
         .saturating_add(chooser.prices.of(Op::Clear));
-    if price_of_clear < price {
-        (Op::Clear, price_of_clear)
+    if row == 0 && clear < below {
+        (Op::Clear, clear)
     } else {
-        (Op::EraseBelow, price)
+        (Op::EraseBelow, below)
     }
 }
