@@ -12,6 +12,7 @@ use scr_term::{Op, Profile, Spot};
 
 impl Draft {
     // Adds a motion, if there is one and it is defined from here.
+    #[inline(always)]
     fn go_if(&mut self, profile: &Profile, op: Option<Op>) -> Result<(), NoMemory>
         ensures { OnOk result (KeepsEvery profile.now self.old self.new) }
     {

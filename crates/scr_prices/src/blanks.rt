@@ -57,6 +57,19 @@ impl Chooser<'_> {
     }
 }
 
+// The least that the cells of a row cost over blanks: their characters, plus an easy motion if there
+// are any.
+pub(crate) fn least_on_blanks(chooser: &Chooser<'_>, cells: &[Cell]) -> u32 {
+    let mut characters = 0u32;
+    for cell in cells {
+        characters = characters.wrapping_add(u32::from(cell.byte() != b' '));
+    }
+    if characters == 0 {
+        return 0;
+    }
+    characters.saturating_add(chooser.jump)
+}
+
 // The stretches of a row so far: the pen of the last one, the blanks after it, and the price of
 // all. A stretch goes on over up to `jump` blanks.
 #[derive(Clone, Copy)]

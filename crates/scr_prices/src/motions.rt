@@ -3,7 +3,6 @@
 pub(crate) mod places;
 pub(crate) mod turns;
 
-use crate::motions::places::Place;
 use scr_term::{Op, Prices, Spot};
 
 /// How the cursor goes to a place: at most three operations, of which the last may be sent several
@@ -26,26 +25,48 @@ pub struct Motion {
 /// along them from the first place of the screen; the first of these that costs least. From past the
 /// last column, no motion goes along.
 pub fn cheapest_motion(prices: &Prices, spot: Spot, row: u32, column: u32) -> Motion {
-    let to = Place::of(prices, row, column);
-    let price = to.price_from(prices, spot, u32::MAX);
-    if price == 0 {
+    if spot == Spot::At(row, column) {
         return Motion::none();
     }
     let direct = Op::Move(row, column);
-    if price == prices.of(direct) {
-        return Motion::none().with_last(direct, 1).priced(price);
-    }
-    match spot {
-        Spot::At(from_row, from_column)
-            if price == to.price_along(prices, (from_row, from_column)) => {
-            Motion::along(prices, (from_row, from_column), &to).priced(price)
+    let mut motion = Motion {
+        last: Some(direct),
+        times: 1,
+        price: prices.of(direct),
+        ..Motion::none()
+    };
+    if let Spot::At(from_row, from_column) = spot {
+        let here = (from_row, from_column);
+        if let Some(along) = motion_along(prices, here, (row, column), motion.price) {
+            motion = along;
         }
-        _ => Motion::from_home(prices, &to).priced(price),
+    }
+    let left = motion.price.saturating_sub(prices.of(Op::Home));
+    match motion_along(prices, (0, 0), (row, column), left) {
+        Some(along) => along.after_home(prices),
+        None => motion,
+    }
+}
+
+// The motion along rows and then columns, if it costs less than the limit.
+fn motion_along(prices: &Prices, from: (u32, u32), to: (u32, u32), limit: u32) -> Option<Motion> {
+    let (rows, price) = cheapest_rows(prices, from.0, to.0);
+    if price >= limit {
+        return None;
+    }
+    let mut motion = Motion::along_columns(prices, from.1, to.1);
+    motion.first = rows;
+    motion.price = motion.price.saturating_add(price);
+    if motion.price < limit {
+        Some(motion)
+    } else {
+        None
     }
 }
 
 impl Motion {
     // Nothing is sent.
+    #[inline(always)]
     fn none() -> Motion {
         Motion {
             first: None,
@@ -56,83 +77,108 @@ impl Motion {
         }
     }
 
-    // With an operation that is sent last, so many times.
-    fn with_last(self, op: Op, times: u32) -> Motion {
+    // From the first place of the screen. No return leads on from its first column, so there are at
+    // most three operations.
+    fn after_home(self, prices: &Prices) -> Motion {
         Motion {
-            last: Some(op),
-            times,
+            first: Some(Op::Home),
+            second: self.first,
+            price: self.price.saturating_add(prices.of(Op::Home)),
             ..self
         }
     }
 
-    // With a price.
-    fn priced(self, price: u32) -> Motion {
-        Motion { price, ..self }
-    }
-
-    // Along rows and then columns: the row's operation is the first of at most three.
-    fn along(prices: &Prices, from: (u32, u32), to: &Place) -> Motion {
-        let rows = Motion {
-            first: cheapest_rows(prices, from.0, to),
-            ..Motion::none()
-        };
-        rows.along_columns(prices, from.1, to)
-    }
-
-    // From the first place of the screen along rows and columns. No return leads on from its first
-    // column, so there are at most three operations.
-    fn from_home(prices: &Prices, to: &Place) -> Motion {
-        let along = Motion::along(prices, (0, 0), to);
-        Motion {
-            first: Some(Op::Home),
-            second: along.first,
-            ..along
+    // From one column to another: by a count, left in single steps, from the first column, or at once;
+    // the first of these that costs least.
+    #[inline(always)]
+    fn along_columns(prices: &Prices, from: u32, to: u32) -> Motion {
+        let mut motion = Motion::none();
+        if from == to {
+            return motion;
         }
+        let count = by_columns(from, to);
+        motion.last = Some(count);
+        motion.times = 1;
+        motion.price = prices.of(count);
+        let singles = price_of_singles(prices, from, to);
+        if singles < motion.price {
+            motion.last = Some(Op::Left(1));
+            motion.times = from.saturating_sub(to);
+            motion.price = singles;
+        }
+        motion.or_from_first(prices, to).or_column(prices, to)
     }
 
-    // With what leads from one column to another: by a count, left in single steps, from the first
-    // column, or at once; the first of these that costs least.
-    fn along_columns(self, prices: &Prices, from: u32, to: &Place) -> Motion {
-        if from == to.column {
+    // The same, or from the first column, if that costs less.
+    #[inline(always)]
+    fn or_from_first(self, prices: &Prices, to: u32) -> Motion {
+        let price = price_from_first(prices, to);
+        if price >= self.price {
             return self;
         }
-        let price = to.price_of_columns(prices, from);
-        let by_count = by_columns(from, to.column);
-        if price == prices.of(by_count) {
-            return self.with_last(by_count, 1);
+        let (second, last) = if to == 0 {
+            (None, Op::Return)
+        } else {
+            (Some(Op::Return), Op::Right(to))
+        };
+        Motion {
+            second,
+            last: Some(last),
+            times: 1,
+            price,
+            ..self
         }
-        if price == to.price_of_singles(prices, from) {
-            return self.with_last(Op::Left(1), from.saturating_sub(to.column));
-        }
-        if price == to.price_from_first(prices) {
-            return self.from_first(to.column);
-        }
-        self.with_last(Op::Column(to.column), 1)
     }
 
-    // With what leads to the first column, and right from there.
-    fn from_first(self, column: u32) -> Motion {
-        if column == 0 {
-            return self.with_last(Op::Return, 1);
+    // The same, or to the column at once, if that costs less.
+    #[inline(always)]
+    fn or_column(self, prices: &Prices, to: u32) -> Motion {
+        let price = prices.of(Op::Column(to));
+        if price >= self.price {
+            return self;
         }
         Motion {
-            second: Some(Op::Return),
-            ..self.with_last(Op::Right(column), 1)
+            last: Some(Op::Column(to)),
+            times: 1,
+            price,
+            ..Motion::none()
         }
     }
 }
 
-// What leads from one row to another: a count, or the row at once if that is cheaper.
-fn cheapest_rows(prices: &Prices, from: u32, to: &Place) -> Option<Op> {
-    if from == to.row {
-        return None;
+// What leads from one row to another, a count, or the row at once if that is cheaper, and its price.
+#[inline(always)]
+fn cheapest_rows(prices: &Prices, from: u32, to: u32) -> (Option<Op>, u32) {
+    if from == to {
+        return (None, 0);
     }
-    let (by_count, at_once) = (by_rows(from, to.row), Op::Line(to.row));
-    Some(if prices.of(at_once) < prices.of(by_count) {
-        at_once
+    let count = by_rows(from, to);
+    let by_count = prices.of(count);
+    let at_once = prices.of(Op::Line(to));
+    if at_once < by_count {
+        (Some(Op::Line(to)), at_once)
     } else {
-        by_count
-    })
+        (Some(count), by_count)
+    }
+}
+
+// The price of going left to a column in single steps; too high from its left.
+#[inline(always)]
+pub(crate) fn price_of_singles(prices: &Prices, from: u32, to: u32) -> u32 {
+    if from < to {
+        return u32::MAX;
+    }
+    prices.of(Op::Left(1)).saturating_mul(from - to)
+}
+
+// The price of going to the first column of a row, and right from there.
+#[inline(always)]
+pub(crate) fn price_from_first(prices: &Prices, column: u32) -> u32 {
+    let first = prices.of(Op::Return);
+    if column == 0 {
+        return first;
+    }
+    first.saturating_add(prices.of(Op::Right(column)))
 }
 
 // Up or down, from one row to another.

@@ -59,6 +59,10 @@ fn places_of(alloc: Global, prices: &Prices, runs: &[Run]) -> Result<Vec<Place>,
     for run in runs {
         places.push(Place::of(prices, run.row, run.start))?;
     }
+    let mut least = u32::MAX;
+    for place in places.iter_mut().rev() {
+        least = place.note_least(least);
+    }
     Ok(places)
 }
 

@@ -107,11 +107,18 @@ impl<'a> Chooser<'a> {
 
     /// The cheapest way to a place with a pen.
     pub fn way(&self, cursor: &Cursor, to: &Target) -> Way {
-        let place = Place::of(self.prices, to.row, to.column);
+        let turn = self.price_of_turn(cursor.pen, to.pen);
+        if cursor.spot == Spot::At(to.row, to.column) {
+            return Way {
+                path: Path::Moving,
+                price: turn,
+            };
+        }
+        let place = Place::from_spot(self.prices, cursor.spot, to.row, to.column);
         let goal = Goal {
             place: &place,
             pen: to.pen,
-            turn: self.price_of_turn(cursor.pen, to.pen),
+            turn,
         };
         self.way_to(cursor, &goal, u32::MAX)
     }
@@ -191,7 +198,7 @@ impl<'a> Chooser<'a> {
         if column == 0 || column > self.jump || column >= limit {
             return None;
         }
-        let first = Place::of(self.prices, row, 0);
+        let first = Place::from_spot(self.prices, cursor.spot, row, 0);
         let motion = first.price_from(self.prices, cursor.spot, limit);
         let price = self
             .price_of_moving(cursor, motion, goal)

@@ -1,6 +1,6 @@
 //! From which row on many lines are to be erased at once, before anything is painted, if that is worth it.
 
-use crate::blanks::{is_blank, price_on_blanks};
+use crate::blanks::{is_blank, least_on_blanks, price_on_blanks};
 use crate::runs::Run;
 use crate::ways::{Chooser, Cursor, Target};
 use scr_cells::Pen;
@@ -60,7 +60,7 @@ fn rows_with_runs(runs: &[Run]) -> u32 {
 }
 
 // Whether some erasure can gain more than it has to: from some row on the runs cost enough more as
-// they stand than on blank rows, even if each row is one stretch there.
+// they stand than the least that their rows cost on blank ones.
 fn may_gain(chooser: &Chooser<'_>, runs: &[Run]) -> bool {
     let lost = least_lost(chooser);
     let mut left = price_as_they_stand(chooser, runs);
@@ -71,7 +71,8 @@ fn may_gain(chooser: &Chooser<'_>, runs: &[Run]) -> bool {
             if spared.saturating_add(left) <= lost {
                 return false;
             }
-            spared = spared.saturating_sub(i64::from(chooser.price_of_row(run.row)));
+            let least = least_on_blanks(chooser, chooser.cells(run.row));
+            spared = spared.saturating_sub(i64::from(least));
             row = Some(run.row);
         }
         let price = i64::from(chooser.price_as_it_stands(run));

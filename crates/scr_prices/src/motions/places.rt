@@ -1,11 +1,12 @@
 //! What motions to a place cost, wherever the cursor is.
 
-use crate::motions::{by_columns, by_rows};
+use crate::motions::{by_columns, by_rows, price_from_first, price_of_singles};
 use scr_term::{Op, Prices, Spot};
 
 // A place, and what does not depend on where the cursor comes from: the price of going to it at once
 // or from the first place of the screen, to its row at once, and to its column at once or from the
-// first column. Motions to one place from many others are priced by it.
+// first column; and the least that going at once to it, or to a place after it among others, costs.
+// Motions to one place from many others are priced by it.
 #[derive(Clone, Copy)]
 pub(crate) struct Place {
     pub(crate) row: u32,
@@ -13,26 +14,63 @@ pub(crate) struct Place {
     at_once: u32,
     to_row: u32,
     to_column: u32,
+    least: u32,
 }
 
 impl Place {
-    // A place of the screen.
+    // A place that motions from any spots lead to.
     pub(crate) fn of(prices: &Prices, row: u32, column: u32) -> Place {
-        let right = price_to_the_right(prices, column);
-        let by_column = prices.of(Op::Column(column));
-        let mut place = Place {
+        Place::without_home(prices, row, column).with_home(prices)
+    }
+
+    // A place that one motion leads to, from a spot.
+    #[inline(always)]
+    pub(crate) fn from_spot(prices: &Prices, spot: Spot, row: u32, column: u32) -> Place {
+        let place = Place::without_home(prices, row, column);
+        if prices.of(Op::Home) < place.price_from(prices, spot, u32::MAX) {
+            place.with_home(prices)
+        } else {
+            place
+        }
+    }
+
+    // A place that no motion leads to from the first place of the screen.
+    #[inline(always)]
+    fn without_home(prices: &Prices, row: u32, column: u32) -> Place {
+        let from_first = price_from_first(prices, column);
+        Place {
             row,
             column,
             at_once: prices.of(Op::Move(row, column)),
             to_row: prices.of(Op::Line(row)),
-            to_column: by_column.min(prices.of(Op::Return).saturating_add(right)),
-        };
+            to_column: from_first.min(prices.of(Op::Column(column))),
+            least: 0,
+        }
+    }
+
+    // The same, with motions from the first place of the screen.
+    fn with_home(self, prices: &Prices) -> Place {
         let from_home = prices
             .of(Op::Home)
-            .saturating_add(place.price_of_rows(prices, 0))
-            .saturating_add(right.min(by_column));
-        place.at_once = place.at_once.min(from_home);
-        place
+            .saturating_add(self.price_of_rows(prices, 0))
+            .saturating_add(self.price_of_columns(prices, 0));
+        Place {
+            at_once: self.at_once.min(from_home),
+            ..self
+        }
+    }
+
+    // Notes the least that going at once to it costs, or to one of the places after it, to which going
+    // costs `least`. Returns the least of all.
+    pub(crate) fn note_least(&mut self, least: u32) -> u32 {
+        self.least = least.min(self.at_once);
+        self.least
+    }
+
+    // Whether going from a spot to any place after it costs at least so much. From past the last
+    // column all motions go at once.
+    pub(crate) fn is_nearest_from(&self, spot: Spot, price: u32) -> bool {
+        matches!(spot, Spot::Margin(_)) && price <= self.least
     }
 
     // The price of the cheapest motion from a spot; if it is not below the limit, it may be any other
@@ -50,13 +88,6 @@ impl Place {
         self.at_once.min(rows.saturating_add(columns))
     }
 
-    // The price of going along rows and columns.
-    #[inline(always)]
-    pub(crate) fn price_along(&self, prices: &Prices, from: (u32, u32)) -> u32 {
-        self.price_of_rows(prices, from.0)
-            .saturating_add(self.price_of_columns(prices, from.1))
-    }
-
     // The price of going to its row: by a count, or at once.
     #[inline(always)]
     fn price_of_rows(&self, prices: &Prices, from: u32) -> u32 {
@@ -66,40 +97,16 @@ impl Place {
         prices.of(by_rows(from, self.row)).min(self.to_row)
     }
 
-    // The price of going to its column: by a count, in single steps, or wherever it is left.
+    // The price of going to its column: by a count, in single steps, or wherever the cursor is in the
+    // row.
     #[inline(always)]
-    pub(crate) fn price_of_columns(&self, prices: &Prices, from: u32) -> u32 {
+    fn price_of_columns(&self, prices: &Prices, from: u32) -> u32 {
         if from == self.column {
             return 0;
         }
         prices
             .of(by_columns(from, self.column))
-            .min(self.price_of_singles(prices, from))
+            .min(price_of_singles(prices, from, self.column))
             .min(self.to_column)
     }
-
-    // The price of going left to its column in single steps; too high from its left.
-    #[inline(always)]
-    pub(crate) fn price_of_singles(&self, prices: &Prices, from: u32) -> u32 {
-        if from < self.column {
-            return u32::MAX;
-        }
-        prices.of(Op::Left(1)).saturating_mul(from - self.column)
-    }
-
-    // The price of going to the first column of a row, and right from there.
-    pub(crate) fn price_from_first(&self, prices: &Prices) -> u32 {
-        prices
-            .of(Op::Return)
-            .saturating_add(price_to_the_right(prices, self.column))
-    }
-}
-
-// The price of going right by a count from the first column.
-#[inline(always)]
-fn price_to_the_right(prices: &Prices, count: u32) -> u32 {
-    if count == 0 {
-        return 0;
-    }
-    prices.of(Op::Right(count))
 }

@@ -82,8 +82,23 @@ impl ToPaint<'_> {
         let mut nearest = Nearest::none();
         for number in self.candidates(walk, links, from, next_alike) {
             self.look_at(walk, links, &mut nearest, number);
+            if number == from && self.is_surely_nearest(walk, links, &nearest) {
+                return nearest;
+            }
         }
         nearest
+    }
+
+    // Whether no other run can be nearer than this one, the first that waits.
+    #[inline(always)]
+    fn is_surely_nearest(&self, walk: &Walk, links: &Links, nearest: &Nearest) -> bool {
+        match self.at(nearest.number) {
+            Some((_, place)) => {
+                place.is_nearest_from(walk.cursor.spot, nearest.compared)
+                    && links.before(nearest.number) >= nearest.number
+            }
+            None => false,
+        }
     }
 
     // The waiting runs that are looked at, in order: some around the place of the last one, and, of
