@@ -7,7 +7,7 @@ ghost use Rattle.scr_plan.specs.Code.Scenes.{IsScene};
 use crate::scenes::Scene;
 use crate::strokes::Draft;
 use scr_cells::{Attrs, NoMemory, Pen};
-use scr_prices::{Chooser, Motion, Path, Target, Turn, cheapest_motion, cheapest_turn};
+use scr_prices::{Chooser, Motion, Path, Target, Turn, cheapest_turn, motion_of_price};
 use scr_term::{Op, Profile, Spot};
 
 impl Draft {
@@ -188,18 +188,19 @@ impl Draft {
         ensures { OnOk result (KeepsAll scene.now.profile.now scene.now.picture.now self.old self.new) }
     {
         match path {
-            Path::Moving => { self.move_and_turn(scene, to) }
+            Path::Moving(price) => { self.move_and_turn(scene, price, to) }
             Path::Writing(from) => { self.write_and_turn(scene, to, from) }
-            Path::MovingToWrite => { self.move_and_write(scene, to) }
+            Path::MovingToWrite(price) => { self.move_and_write(scene, price, to) }
         }
     }
 
-    // By the cheapest motion and a turn.
-    fn move_and_turn(&mut self, scene: &Scene<'_>, to: &Target) -> Result<(), NoMemory>
+    // By the motion of a price, and a turn.
+    fn move_and_turn(&mut self, scene: &Scene<'_>, price: u32, to: &Target) -> Result<(), NoMemory>
         ensures { OnOk result (KeepsAll scene.now.profile.now scene.now.picture.now self.old self.new) }
     {
         let _size = scene.picture.size();
-        let motion = cheapest_motion(scene.profile.prices(), self.spot, to.row, to.column);
+        let prices = scene.profile.prices();
+        let motion = motion_of_price(prices, self.spot, (to.row, to.column), price);
         self.move_by(scene.profile, motion, to.row, to.column)?;
         self.turn_to(scene.profile, to.pen)
     }
@@ -216,15 +217,15 @@ impl Draft {
         self.turn_to(scene.profile, to.pen)
     }
 
-    // By a motion, a turn, and writing the places of the row before it.
-    fn move_and_write(&mut self, scene: &Scene<'_>, to: &Target) -> Result<(), NoMemory>
+    // By the motion of a price, a turn, and writing the places of the row before it.
+    fn move_and_write(&mut self, scene: &Scene<'_>, price: u32, to: &Target) -> Result<(), NoMemory>
         requires scene { IsScene scene.now }
         requires row { to.now.row < scene.now.picture.now.rows }
         requires column { to.now.column < scene.now.picture.now.columns }
         ensures { OnOk result (KeepsAll scene.now.profile.now scene.now.picture.now self.old self.new) }
     {
         let _size = scene.picture.size();
-        self.move_and_turn(scene, &Target { column: 0, ..*to })?;
+        self.move_and_turn(scene, price, &Target { column: 0, ..*to })?;
         self.write(scene, to.row, 0, to.column)
     }
 }

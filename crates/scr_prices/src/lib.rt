@@ -27,7 +27,7 @@ mod wipings;
 
 pub use blanks::is_blank;
 pub use motions::turns::{Turn, cheapest_turn};
-pub use motions::{Motion, cheapest_motion};
+pub use motions::{Motion, cheapest_motion, motion_of_price};
 pub use order::cheapest_order;
 pub use rows::{RowPrices, RowRuns, runs_end};
 pub use runs::{How, Run};

@@ -3,6 +3,7 @@
 pub(crate) mod places;
 pub(crate) mod turns;
 
+use crate::motions::places::Place;
 use scr_term::{Op, Prices, Spot};
 
 /// How the cursor goes to a place: at most three operations, of which the last may be sent several
@@ -25,42 +26,64 @@ pub struct Motion {
 /// along them from the first place of the screen; the first of these that costs least. From past the
 /// last column, no motion goes along.
 pub fn cheapest_motion(prices: &Prices, spot: Spot, row: u32, column: u32) -> Motion {
-    if spot == Spot::At(row, column) {
+    let place = Place::from_spot(prices, spot, row, column);
+    let price = place.price_from(prices, spot, u32::MAX);
+    motion_of_price(prices, spot, (row, column), price)
+}
+
+/// The cheapest motion from a spot to the place in a row and a column, of which the price is known.
+pub fn motion_of_price(prices: &Prices, spot: Spot, to: (u32, u32), price: u32) -> Motion {
+    if price == 0 {
         return Motion::none();
     }
-    let direct = Op::Move(row, column);
-    let mut motion = Motion {
-        last: Some(direct),
-        times: 1,
-        price: prices.of(direct),
-        ..Motion::none()
-    };
-    if let Spot::At(from_row, from_column) = spot {
-        let here = (from_row, from_column);
-        if let Some(along) = motion_along(prices, here, (row, column), motion.price) {
-            motion = along;
+    let direct = Op::Move(to.0, to.1);
+    if price == prices.of(direct) {
+        return Motion::none().with_last(direct, 1).priced(price);
+    }
+    if let Spot::At(row, column) = spot {
+        if let Some(along) = motion_along(prices, (row, column), to, price) {
+            return along.priced(price);
         }
     }
-    let left = motion.price.saturating_sub(prices.of(Op::Home));
-    match motion_along(prices, (0, 0), (row, column), left) {
-        Some(along) => along.after_home(prices),
-        None => motion,
+    let left = price.saturating_sub(prices.of(Op::Home));
+    match motion_along(prices, (0, 0), to, left) {
+        Some(along) => along.after_home().priced(price),
+        None => Motion::none().with_last(direct, 1).priced(price),
     }
 }
 
-// The motion along rows and then columns, if it costs less than the limit.
-fn motion_along(prices: &Prices, from: (u32, u32), to: (u32, u32), limit: u32) -> Option<Motion> {
-    let (rows, price) = cheapest_rows(prices, from.0, to.0);
-    if price >= limit {
-        return None;
+// The motion along rows and then columns, if the cheapest one has this price.
+#[inline(always)]
+fn motion_along(prices: &Prices, from: (u32, u32), to: (u32, u32), price: u32) -> Option<Motion> {
+    let mut rows = Motion::none();
+    let mut left = price;
+    if from.0 != to.0 {
+        let (op, price) = cheapest_rows(prices, from.0, to.0);
+        rows.first = Some(op);
+        left = price_left(left, price)?;
     }
-    let mut motion = Motion::along_columns(prices, from.1, to.1);
-    motion.first = rows;
-    motion.price = motion.price.saturating_add(price);
-    if motion.price < limit {
-        Some(motion)
-    } else {
+    rows.along_columns(prices, from.1, to.1, left)
+}
+
+// What is left of a price, if it is not less than a part.
+#[inline(always)]
+fn price_left(price: u32, part: u32) -> Option<u32> {
+    if part > price {
         None
+    } else {
+        Some(price - part)
+    }
+}
+
+// What leads from one row to another, a count, or the row at once if that is cheaper, and its price.
+#[inline(always)]
+fn cheapest_rows(prices: &Prices, from: u32, to: u32) -> (Op, u32) {
+    let count = by_rows(from, to);
+    let (by_count, at_once) = (prices.of(count), prices.of(Op::Line(to)));
+    if at_once < by_count {
+        (Op::Line(to), at_once)
+    } else {
+        (count, by_count)
     }
 }
 
@@ -77,88 +100,65 @@ impl Motion {
         }
     }
 
+    // With an operation that is sent last, so many times.
+    #[inline(always)]
+    fn with_last(self, op: Op, times: u32) -> Motion {
+        Motion {
+            last: Some(op),
+            times,
+            ..self
+        }
+    }
+
+    // With a price.
+    #[inline(always)]
+    fn priced(self, price: u32) -> Motion {
+        Motion { price, ..self }
+    }
+
     // From the first place of the screen. No return leads on from its first column, so there are at
     // most three operations.
-    fn after_home(self, prices: &Prices) -> Motion {
+    fn after_home(self) -> Motion {
         Motion {
             first: Some(Op::Home),
             second: self.first,
-            price: self.price.saturating_add(prices.of(Op::Home)),
             ..self
         }
     }
 
-    // From one column to another: by a count, left in single steps, from the first column, or at once;
-    // the first of these that costs least.
+    // With what leads from one column to another at this price: a count, single steps to the left, a
+    // return and a count, or the column at once.
     #[inline(always)]
-    fn along_columns(prices: &Prices, from: u32, to: u32) -> Motion {
-        let mut motion = Motion::none();
+    fn along_columns(self, prices: &Prices, from: u32, to: u32, price: u32) -> Option<Motion> {
         if from == to {
-            return motion;
+            return if price == 0 { Some(self) } else { None };
         }
         let count = by_columns(from, to);
-        motion.last = Some(count);
-        motion.times = 1;
-        motion.price = prices.of(count);
-        let singles = price_of_singles(prices, from, to);
-        if singles < motion.price {
-            motion.last = Some(Op::Left(1));
-            motion.times = from.saturating_sub(to);
-            motion.price = singles;
+        if price == prices.of(count) {
+            return Some(self.with_last(count, 1));
         }
-        motion.or_from_first(prices, to).or_column(prices, to)
+        if price == price_of_singles(prices, from, to) {
+            return Some(self.with_last(Op::Left(1), from.saturating_sub(to)));
+        }
+        if price == price_from_first(prices, to) {
+            return Some(self.from_first(to));
+        }
+        if price == prices.of(Op::Column(to)) {
+            return Some(self.with_last(Op::Column(to), 1));
+        }
+        None
     }
 
-    // The same, or from the first column, if that costs less.
+    // With what leads to the first column, and right from there.
     #[inline(always)]
-    fn or_from_first(self, prices: &Prices, to: u32) -> Motion {
-        let price = price_from_first(prices, to);
-        if price >= self.price {
-            return self;
-        }
-        let (second, last) = if to == 0 {
-            (None, Op::Return)
-        } else {
-            (Some(Op::Return), Op::Right(to))
-        };
-        Motion {
-            second,
-            last: Some(last),
-            times: 1,
-            price,
-            ..self
-        }
-    }
-
-    // The same, or to the column at once, if that costs less.
-    #[inline(always)]
-    fn or_column(self, prices: &Prices, to: u32) -> Motion {
-        let price = prices.of(Op::Column(to));
-        if price >= self.price {
-            return self;
+    fn from_first(self, column: u32) -> Motion {
+        if column == 0 {
+            return self.with_last(Op::Return, 1);
         }
         Motion {
-            last: Some(Op::Column(to)),
-            times: 1,
-            price,
-            ..Motion::none()
+            second: Some(Op::Return),
+            ..self.with_last(Op::Right(column), 1)
         }
-    }
-}
-
-// What leads from one row to another, a count, or the row at once if that is cheaper, and its price.
-#[inline(always)]
-fn cheapest_rows(prices: &Prices, from: u32, to: u32) -> (Option<Op>, u32) {
-    if from == to {
-        return (None, 0);
-    }
-    let count = by_rows(from, to);
-    let by_count = prices.of(count);
-    let at_once = prices.of(Op::Line(to));
-    if at_once < by_count {
-        (Some(Op::Line(to)), at_once)
-    } else {
-        (Some(count), by_count)
     }
 }
 

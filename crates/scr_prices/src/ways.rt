@@ -40,13 +40,13 @@ impl Cursor {
 /// these comes before each of them.
 #[derive(Clone, Copy)]
 pub enum Path {
-    /// Move to the place, then turn to the pen.
-    Moving,
+    /// Move to the place by a motion of this price, then turn to the pen.
+    Moving(u32),
     /// Write the places of the row from this column on with the current pen, then turn to the pen.
     Writing(u32),
-    /// Move to the first column of the row, turn to the pen, and write the places before the place
-    /// with it.
-    MovingToWrite,
+    /// Move to the first column of the row by a motion of this price, turn to the pen, and write the
+    /// places before the place with it.
+    MovingToWrite(u32),
 }
 
 /// A path, and how many bytes it has.
@@ -110,7 +110,7 @@ impl<'a> Chooser<'a> {
         let turn = self.price_of_turn(cursor.pen, to.pen);
         if cursor.spot == Spot::At(to.row, to.column) {
             return Way {
-                path: Path::Moving,
+                path: Path::Moving(0),
                 price: turn,
             };
         }
@@ -137,7 +137,7 @@ impl<'a> Chooser<'a> {
             self.moving_to_write(cursor, goal, price)
         };
         by_writing.unwrap_or(Way {
-            path: Path::Moving,
+            path: Path::Moving(motion),
             price,
         })
     }
@@ -207,7 +207,7 @@ impl<'a> Chooser<'a> {
             return None;
         }
         Some(Way {
-            path: Path::MovingToWrite,
+            path: Path::MovingToWrite(motion),
             price,
         })
     }

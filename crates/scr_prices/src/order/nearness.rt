@@ -32,7 +32,7 @@ impl Nearest {
         Nearest {
             number: NONE,
             way: Way {
-                path: Path::Moving,
+                path: Path::Moving(0),
                 price: 0,
             },
             compared: u32::MAX,
