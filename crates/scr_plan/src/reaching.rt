@@ -47,11 +47,11 @@ impl Draft {
             return Ok(());
         }
         self.get_plain_to_move(profile)?;
-        self.take(profile, motion)
+        self.take(profile, &motion)
     }
 
     // Adds the operations of a motion.
-    fn take(&mut self, profile: &Profile, motion: Motion) -> Result<(), NoMemory>
+    fn take(&mut self, profile: &Profile, motion: &Motion) -> Result<(), NoMemory>
         ensures { OnOk result (KeepsEvery profile.now self.old self.new) }
     {
         self.go_if(profile, motion.first)?;

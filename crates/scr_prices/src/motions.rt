@@ -3,7 +3,7 @@
 pub(crate) mod places;
 pub(crate) mod turns;
 
-use crate::motions::places::Place;
+use crate::motions::places::price_of_motion;
 use scr_term::{Op, Prices, Spot};
 
 /// How the cursor goes to a place: at most three operations, of which the last may be sent several
@@ -26,8 +26,7 @@ pub struct Motion {
 /// along them from the first place of the screen; the first of these that costs least. From past the
 /// last column, no motion goes along.
 pub fn cheapest_motion(prices: &Prices, spot: Spot, row: u32, column: u32) -> Motion {
-    let place = Place::from_spot(prices, spot, row, column);
-    let price = place.price_from(prices, spot, u32::MAX);
+    let price = price_of_motion(prices, spot, row, column);
     motion_of_price(prices, spot, (row, column), price)
 }
 
@@ -60,19 +59,9 @@ fn motion_along(prices: &Prices, from: (u32, u32), to: (u32, u32), price: u32) -
     if from.0 != to.0 {
         let (op, price) = cheapest_rows(prices, from.0, to.0);
         rows.first = Some(op);
-        left = price_left(left, price)?;
+        left = left.checked_sub(price)?;
     }
     rows.along_columns(prices, from.1, to.1, left)
-}
-
-// What is left of a price, if it is not less than a part.
-#[inline(always)]
-fn price_left(price: u32, part: u32) -> Option<u32> {
-    if part > price {
-        None
-    } else {
-        Some(price - part)
-    }
 }
 
 // What leads from one row to another, a count, or the row at once if that is cheaper, and its price.

@@ -12,7 +12,6 @@ use crate::order::walks::Walk;
 use crate::runs::Run;
 use crate::ways::{Chooser, Cursor, Goal, Stop, Way};
 use scr_cells::NoMemory;
-use scr_term::Prices;
 use std::alloc::Global;
 
 /// The runs in the cheapest order from where the cursor is, to where the picture wants it; the nearest next if others
@@ -25,7 +24,7 @@ pub fn cheapest_order(
     runs: &[Run],
     moved: bool,
 ) -> Result<Vec<Stop>, NoMemory> {
-    let places = places_of(alloc, chooser.prices, runs)?;
+    let places = places_of(alloc, chooser, runs)?;
     let to_paint = ToPaint {
         alloc,
         chooser,
@@ -37,31 +36,24 @@ pub fn cheapest_order(
     let mut links = Links::new(alloc, runs)?;
     let by_pens = to_paint.by_pens(cursor, &mut links)?;
     let nearest = to_paint.by_nearness(cursor, &mut links, by_pens.price)?;
-    let best = if by_pens.price < nearest.price {
-        by_pens
-    } else {
-        nearest
-    };
-    if !moved {
-        return Ok(best.stops);
+    let mut best = nearest.or(by_pens);
+    if moved {
+        let read = to_paint.as_read(cursor, best.price)?;
+        best = best.or(read);
     }
-    let read = to_paint.as_read(cursor, best.price)?;
-    Ok(if read.price < best.price {
-        read.stops
-    } else {
-        best.stops
-    })
+    Ok(best.stops)
 }
 
 // The first place of each run.
-fn places_of(alloc: Global, prices: &Prices, runs: &[Run]) -> Result<Vec<Place>, NoMemory> {
+fn places_of(alloc: Global, chooser: &Chooser<'_>, runs: &[Run]) -> Result<Vec<Place>, NoMemory> {
     let mut places = Vec::with_capacity(alloc, runs.len())?;
     for run in runs {
-        places.push(Place::of(prices, run.row, run.start))?;
+        places.push(Place::of(chooser.prices, run.row, run.start))?;
     }
     let mut least = u32::MAX;
     for place in places.iter_mut().rev() {
-        least = place.note_least(least);
+        least = least.min(chooser.least_from_margin(place));
+        place.least = least;
     }
     Ok(places)
 }
@@ -104,11 +96,11 @@ impl ToPaint<'_> {
             return Ok(());
         };
         let goal = Goal {
-            place,
-            pen: run.pen,
+            to: run.target(),
             turn: self.chooser.price_of_turn(walk.cursor.pen, run.pen),
         };
-        let way = self.chooser.way_to(&walk.cursor, &goal, u32::MAX);
+        let motion = place.price_from(self.chooser.prices, walk.cursor.spot, u32::MAX);
+        let way = self.chooser.way_to(&walk.cursor, &goal, motion);
         self.paint(walk, number, way)
     }
 

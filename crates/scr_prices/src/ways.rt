@@ -1,7 +1,7 @@
 //! The cheapest way to a place with a pen: by a motion and a turn, or by writing places with what
 //! they are to show.
 
-use crate::motions::places::Place;
+use crate::motions::places::{Place, price_of_motion};
 use crate::motions::turns::cheapest_turn;
 use crate::runs::{How, Run};
 use scr_cells::{Attrs, Cell, Pen, Picture};
@@ -67,11 +67,10 @@ pub struct Stop {
     pub way: Option<Way>,
 }
 
-// Where a way leads: to a place, with a pen, to which the turn from the pen that is on has a price.
+// Where a way leads, and the price of the turn to its pen from the one that is on.
 #[derive(Clone, Copy)]
-pub(crate) struct Goal<'a> {
-    pub(crate) place: &'a Place,
-    pub(crate) pen: Pen,
+pub(crate) struct Goal {
+    pub(crate) to: Target,
     pub(crate) turn: u32,
 }
 
@@ -108,30 +107,16 @@ impl<'a> Chooser<'a> {
     /// The cheapest way to a place with a pen.
     pub fn way(&self, cursor: &Cursor, to: &Target) -> Way {
         let turn = self.price_of_turn(cursor.pen, to.pen);
-        if cursor.spot == Spot::At(to.row, to.column) {
-            return Way {
-                path: Path::Moving(0),
-                price: turn,
-            };
-        }
-        let place = Place::from_spot(self.prices, cursor.spot, to.row, to.column);
-        let goal = Goal {
-            place: &place,
-            pen: to.pen,
-            turn,
-        };
-        self.way_to(cursor, &goal, u32::MAX)
+        let motion = price_of_motion(self.prices, cursor.spot, to.row, to.column);
+        self.way_to(cursor, &Goal { to: *to, turn }, motion)
     }
 
-    // The cheapest way to a goal: by a motion and a turn, unless writing places costs less. If its
-    // price is not below the limit, it may be any other way whose price is not.
+    // The cheapest way to a goal, to which the cheapest motion has this price: by that and a turn,
+    // unless writing places costs less.
     #[inline(always)]
-    pub(crate) fn way_to(&self, cursor: &Cursor, goal: &Goal<'_>, limit: u32) -> Way {
-        let motion = goal
-            .place
-            .price_from(self.prices, cursor.spot, limit.saturating_sub(goal.turn));
+    pub(crate) fn way_to(&self, cursor: &Cursor, goal: &Goal, motion: u32) -> Way {
         let price = self.price_of_moving(cursor, motion, goal);
-        let by_writing = if cursor.row() == goal.place.row {
+        let by_writing = if cursor.row() == goal.to.row {
             self.writing(cursor, goal, price)
         } else {
             self.moving_to_write(cursor, goal, price)
@@ -144,13 +129,13 @@ impl<'a> Chooser<'a> {
 
     // The price of a motion and the goal's turn, with the turn that may be needed before the motion.
     #[inline(always)]
-    fn price_of_moving(&self, cursor: &Cursor, motion: u32, goal: &Goal<'_>) -> u32 {
+    fn price_of_moving(&self, cursor: &Cursor, motion: u32, goal: &Goal) -> u32 {
         if self.moves_in_any_rendition || cursor.pen.is_plain() || motion == 0 {
             return motion.saturating_add(goal.turn);
         }
         self.price_of_turn(cursor.pen, Pen::plain())
             .saturating_add(motion)
-            .saturating_add(self.price_of_turn(Pen::plain(), goal.pen))
+            .saturating_add(self.price_of_turn(Pen::plain(), goal.to.pen))
     }
 
     // The price of the cheapest turn from one pen to another.
@@ -173,8 +158,8 @@ impl<'a> Chooser<'a> {
 
     // By writing the places of the row in between, if this costs less than the limit.
     #[inline(always)]
-    fn writing(&self, cursor: &Cursor, goal: &Goal<'_>, limit: u32) -> Option<Way> {
-        let (row, column) = (goal.place.row, goal.place.column);
+    fn writing(&self, cursor: &Cursor, goal: &Goal, limit: u32) -> Option<Way> {
+        let Target { row, column, .. } = goal.to;
         let Spot::At(_, from) = cursor.spot else {
             return None;
         };
@@ -193,23 +178,34 @@ impl<'a> Chooser<'a> {
 
     // By writing the places before it in its row, if this costs less than the limit.
     #[inline(always)]
-    fn moving_to_write(&self, cursor: &Cursor, goal: &Goal<'_>, limit: u32) -> Option<Way> {
-        let (row, column) = (goal.place.row, goal.place.column);
+    fn moving_to_write(&self, cursor: &Cursor, goal: &Goal, limit: u32) -> Option<Way> {
+        let Target { row, column, pen } = goal.to;
         if column == 0 || column > self.jump || column >= limit {
             return None;
         }
-        let first = Place::from_spot(self.prices, cursor.spot, row, 0);
-        let motion = first.price_from(self.prices, cursor.spot, limit);
+        let motion = price_of_motion(self.prices, cursor.spot, row, 0);
         let price = self
             .price_of_moving(cursor, motion, goal)
             .saturating_add(column);
-        if price >= limit || !self.are_seen_with(goal.pen, row, 0, column) {
+        if price >= limit || !self.are_seen_with(pen, row, 0, column) {
             return None;
         }
         Some(Way {
             path: Path::MovingToWrite(motion),
             price,
         })
+    }
+
+    // The least that a way to a place costs from past the last column: it goes there at once, or to
+    // the first column, to write.
+    pub(crate) fn least_from_margin(&self, place: &Place) -> u32 {
+        let margin = Spot::Margin(place.row);
+        let at_once = place.price_from(self.prices, margin, u32::MAX);
+        if place.column == 0 || place.column > self.jump {
+            return at_once;
+        }
+        let to_write = price_of_motion(self.prices, margin, place.row, 0);
+        at_once.min(to_write.saturating_add(place.column))
     }
 
     /// The cells of a row; none if there is no such row.

@@ -5,8 +5,8 @@ use scr_term::{Op, Prices, Spot};
 
 // A place, and what does not depend on where the cursor comes from: the price of going to it at once
 // or from the first place of the screen, to its row at once, and to its column at once or from the
-// first column; and the least that going at once to it, or to a place after it among others, costs.
-// Motions to one place from many others are priced by it.
+// first column. Motions to one place from many others are priced by it. Of places in a list it also
+// has the least that a way to it, or to one after it, costs from past the last column.
 #[derive(Clone, Copy)]
 pub(crate) struct Place {
     pub(crate) row: u32,
@@ -14,24 +14,13 @@ pub(crate) struct Place {
     at_once: u32,
     to_row: u32,
     to_column: u32,
-    least: u32,
+    pub(crate) least: u32,
 }
 
 impl Place {
     // A place that motions from any spots lead to.
     pub(crate) fn of(prices: &Prices, row: u32, column: u32) -> Place {
         Place::without_home(prices, row, column).with_home(prices)
-    }
-
-    // A place that one motion leads to, from a spot.
-    #[inline(always)]
-    pub(crate) fn from_spot(prices: &Prices, spot: Spot, row: u32, column: u32) -> Place {
-        let place = Place::without_home(prices, row, column);
-        if prices.of(Op::Home) < place.price_from(prices, spot, u32::MAX) {
-            place.with_home(prices)
-        } else {
-            place
-        }
     }
 
     // A place that no motion leads to from the first place of the screen.
@@ -58,19 +47,6 @@ impl Place {
             at_once: self.at_once.min(from_home),
             ..self
         }
-    }
-
-    // Notes the least that going at once to it costs, or to one of the places after it, to which going
-    // costs `least`. Returns the least of all.
-    pub(crate) fn note_least(&mut self, least: u32) -> u32 {
-        self.least = least.min(self.at_once);
-        self.least
-    }
-
-    // Whether going from a spot to any place after it costs at least so much. From past the last
-    // column all motions go at once.
-    pub(crate) fn is_nearest_from(&self, spot: Spot, price: u32) -> bool {
-        matches!(spot, Spot::Margin(_)) && price <= self.least
     }
 
     // The price of the cheapest motion from a spot; if it is not below the limit, it may be any other
@@ -109,4 +85,17 @@ impl Place {
             .min(price_of_singles(prices, from, self.column))
             .min(self.to_column)
     }
+}
+
+// The price of the cheapest motion from a spot to a place.
+pub(crate) fn price_of_motion(prices: &Prices, spot: Spot, row: u32, column: u32) -> u32 {
+    if spot == Spot::At(row, column) {
+        return 0;
+    }
+    let place = Place::without_home(prices, row, column);
+    let price = place.price_from(prices, spot, u32::MAX);
+    if prices.of(Op::Home) >= price {
+        return price;
+    }
+    place.with_home(prices).at_once.min(price)
 }

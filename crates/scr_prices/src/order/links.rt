@@ -19,6 +19,14 @@ pub(crate) struct Neighbours {
     pub(crate) next: u32,
 }
 
+impl Neighbours {
+    // No neighbours.
+    const NONE: Neighbours = Neighbours {
+        before: NONE,
+        next: NONE,
+    };
+}
+
 // The neighbours of a run in the ring and in its chain, and the number of the chain.
 #[derive(Clone, Copy)]
 struct Link {
@@ -127,12 +135,10 @@ impl Links {
 
     // The first waiting run with a pen; `NONE` if there is none, or the pen has no chain.
     pub(crate) fn first_with(&self, pen: Pen) -> u32 {
-        for chain in &self.chains {
-            if chain.pen == pen {
-                return chain.first;
-            }
+        match self.chains.get(self.chain_of(pen) as usize) {
+            Some(chain) => chain.first,
+            None => NONE,
         }
-        NONE
     }
 
     // The price of the turn from a pen to that of a run; what was asked for last is known.
@@ -157,21 +163,12 @@ impl Links {
         }
     }
 
-    // The run after a run in the ring.
+    // The runs before and after a run in the ring.
     #[inline(always)]
-    pub(crate) fn next(&self, number: u32) -> u32 {
+    pub(crate) fn around(&self, number: u32) -> Neighbours {
         match self.links.get(number as usize) {
-            Some(link) => link.around.next,
-            None => NONE,
-        }
-    }
-
-    // The run before a run in the ring.
-    #[inline(always)]
-    pub(crate) fn before(&self, number: u32) -> u32 {
-        match self.links.get(number as usize) {
-            Some(link) => link.around.before,
-            None => NONE,
+            Some(link) => link.around,
+            None => Neighbours::NONE,
         }
     }
 
@@ -180,10 +177,7 @@ impl Links {
     pub(crate) fn alike(&self, number: u32) -> Neighbours {
         match self.links.get(number as usize) {
             Some(link) => link.alike,
-            None => Neighbours {
-                before: NONE,
-                next: NONE,
-            },
+            None => Neighbours::NONE,
         }
     }
 

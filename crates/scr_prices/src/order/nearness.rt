@@ -5,6 +5,7 @@ use crate::order::links::{Links, NONE};
 use crate::order::walks::Walk;
 use crate::ways::{Cursor, Goal, Path, Way};
 use scr_cells::NoMemory;
+use scr_term::Spot;
 
 // How many waiting runs are looked at from the last one's place on, and how many before that.
 const AHEAD: usize = 4;
@@ -57,7 +58,7 @@ impl ToPaint<'_> {
             if walk.price > limit {
                 return Ok(walk);
             }
-            from = links.next(nearest.number);
+            from = links.around(nearest.number).next;
             next_alike = links.alike(nearest.number).next;
             links.remove(nearest.number);
         }
@@ -80,22 +81,26 @@ impl ToPaint<'_> {
     // The nearest of a few waiting runs.
     fn nearest(&self, walk: &Walk, links: &mut Links, from: u32, next_alike: u32) -> Nearest {
         let mut nearest = Nearest::none();
-        for number in self.candidates(walk, links, from, next_alike) {
-            self.look_at(walk, links, &mut nearest, number);
-            if number == from && self.is_surely_nearest(walk, links, &nearest) {
+        if let Spot::Margin(_) = walk.cursor.spot {
+            self.look_at(walk, links, &mut nearest, from);
+            if self.is_surely_nearest(links, &nearest) {
                 return nearest;
             }
+        }
+        for number in self.candidates(walk, links, from, next_alike) {
+            self.look_at(walk, links, &mut nearest, number);
         }
         nearest
     }
 
-    // Whether no other run can be nearer than this one, the first that waits.
+    // Whether no other run is nearer than this one, from past the last column: none before it waits,
+    // and no way to one after it costs less.
     #[inline(always)]
-    fn is_surely_nearest(&self, walk: &Walk, links: &Links, nearest: &Nearest) -> bool {
+    fn is_surely_nearest(&self, links: &Links, nearest: &Nearest) -> bool {
         match self.at(nearest.number) {
             Some((_, place)) => {
-                place.is_nearest_from(walk.cursor.spot, nearest.compared)
-                    && links.before(nearest.number) >= nearest.number
+                nearest.compared <= place.least
+                    && links.around(nearest.number).before >= nearest.number
             }
             None => false,
         }
@@ -109,11 +114,11 @@ impl ToPaint<'_> {
         let mut number = from;
         for place in 0..AHEAD.min(waiting) {
             found[place] = number;
-            number = links.next(number);
+            number = links.around(number).next;
         }
         number = from;
         for place in AHEAD..(AHEAD + BACK).min(waiting) {
-            number = links.before(number);
+            number = links.around(number).before;
             found[place] = number;
         }
         if waiting > AHEAD && !found.contains(&next_alike) {
@@ -128,6 +133,7 @@ impl ToPaint<'_> {
 
     // Looks at a run, if it exists: it becomes the nearest so far if it is nearer. Many runs are
     // ruled out by the turn alone.
+    #[inline(always)]
     fn look_at(&self, walk: &Walk, links: &mut Links, nearest: &mut Nearest, number: u32) {
         if number == nearest.number {
             return;
@@ -142,11 +148,11 @@ impl ToPaint<'_> {
             return;
         }
         let goal = Goal {
-            place,
-            pen: run.pen,
+            to: run.target(),
             turn,
         };
-        let way = self.chooser.way_to(&walk.cursor, &goal, limit);
+        let motion = place.price_from(self.chooser.prices, walk.cursor.spot, limit - turn);
+        let way = self.chooser.way_to(&walk.cursor, &goal, motion);
         if way.price < limit {
             *nearest = Nearest {
                 number,

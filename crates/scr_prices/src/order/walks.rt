@@ -23,6 +23,15 @@ impl Walk {
         })
     }
 
+    // The cheaper of two walks; this one if they cost the same.
+    pub(crate) fn or(self, other: Walk) -> Walk {
+        if other.price < self.price {
+            other
+        } else {
+            self
+        }
+    }
+
     // Adds the price of the way to where the cursor is wanted, and of the reset that the next moves
     // need.
     pub(crate) fn end(&mut self, to_paint: &ToPaint<'_>) {
