@@ -169,8 +169,11 @@ impl Draft {
         self.follow(scene, path, to)
     }
 
-    // The cheapest path to a place and a pen.
+    // The cheapest path to a place and a pen: where the cursor is there, a turn is all.
     pub(crate) fn path_to(&self, scene: &Scene<'_>, to: &Target) -> Path {
+        if self.spot == Spot::At(to.row, to.column) {
+            return Path::Moving(0);
+        }
         let chooser = Chooser::new(scene.profile, scene.picture);
         chooser.way(&self.cursor(), to).path
     }
