@@ -169,6 +169,21 @@ impl Draft {
         self.follow(scene, path, to)
     }
 
+    // Goes to the first place of a row with a plain pen, by the cheapest way.
+    pub(crate) fn reach_row(&mut self, scene: &Scene<'_>, row: u32) -> Result<(), NoMemory>
+        requires scene { IsScene scene.now }
+        requires row { row < scene.now.picture.now.rows }
+        ensures { OnOk result (KeepsAll scene.now.profile.now scene.now.picture.now self.old self.new) }
+    {
+        let _size = scene.picture.size();
+        let to = Target {
+            row,
+            column: 0,
+            pen: Pen::plain(),
+        };
+        self.reach(scene, &to)
+    }
+
     // The cheapest path to a place and a pen: where the cursor is there, a turn is all.
     pub(crate) fn path_to(&self, scene: &Scene<'_>, to: &Target) -> Path {
         if self.spot == Spot::At(to.row, to.column) {

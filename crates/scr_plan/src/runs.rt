@@ -14,7 +14,7 @@ use crate::scenes::{Line, Scene};
 use scr_cells::{Look, NoMemory, Pen};
 use scr_prices::{How, Run};
 
-// A row that is being cut: the next run begins in `column` or behind it. Up to `stretch` the
+// A row that is being cut: the next run begins in `column` or after it. Up to `stretch` the
 // columns belong to a stretch that was begun, up to `end` stretches are searched, and from there to
 // `last` the rest of the row is to be erased.
 #[derive(Clone, Copy)]

@@ -36,7 +36,8 @@ pub(crate) struct Part {
 
 impl Draft {
     // Slides the characters of each row where that is worth it. After a shift, if there was one,
-    // the rows show the picture except in their runs.
+    // the rows show the picture except in their runs. These are by rows: if one were not, the search
+    // would end there.
     pub(crate) fn slide_rows(
         &mut self,
         alloc: Global,

@@ -14,7 +14,7 @@ use crate::scenes::{Scene, Update};
 use crate::strokes::Draft;
 use scr_cells::{Look, NoMemory, Pen, grid_laws};
 use scr_memory::{Memory, memory_runs};
-use scr_prices::{Run, Target};
+use scr_prices::Run;
 use scr_term::{Op, Profile, Spot, profiles_have, run_laws};
 use std::alloc::Global;
 
@@ -157,14 +157,7 @@ impl Draft {
         if top == size.rows {
             return Ok(true);
         }
-        self.reach(
-            scene,
-            &Target {
-                row: top,
-                column: 0,
-                pen: Pen::plain(),
-            },
-        )?;
+        self.reach_row(scene, top)?;
         self.erase_below(scene, top)
     }
 
@@ -201,14 +194,7 @@ impl Draft {
         grid_laws::<Look>();
         let _size = scene.profile.size();
         let _picture = scene.picture.size();
-        self.reach(
-            scene,
-            &Target {
-                row,
-                column: 0,
-                pen: Pen::plain(),
-            },
-        )?;
+        self.reach_row(scene, row)?;
         if !self.can_erase(scene.profile, row, 0, Op::EraseLine) {
             return Ok(false);
         }

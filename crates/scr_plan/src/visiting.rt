@@ -151,15 +151,7 @@ impl Draft {
     {
         let _size = scene.picture.size();
         let path = self.path_by(scene, &run, way);
-        self.follow(
-            scene,
-            path,
-            &Target {
-                row: run.row,
-                column: run.start,
-                pen: run.pen,
-            },
-        )?;
+        self.follow(scene, path, &run.target())?;
         self.paint_run(scene, run, end)
     }
 
@@ -167,14 +159,7 @@ impl Draft {
     fn path_by(&self, scene: &Scene<'_>, run: &Run, way: Option<Way>) -> Path {
         match way {
             Some(way) => way.path,
-            None => self.path_to(
-                scene,
-                &Target {
-                    row: run.row,
-                    column: run.start,
-                    pen: run.pen,
-                },
-            ),
+            None => self.path_to(scene, &run.target()),
         }
     }
 

@@ -8,7 +8,7 @@ use crate::scenes::Scene;
 use crate::strokes::Draft;
 use scr_cells::{Look, NoMemory, Pen, grid_laws};
 use scr_memory::memory_runs;
-use scr_prices::{Chooser, Run, Target, Wiping, cheapest_wiping};
+use scr_prices::{Chooser, Run, Wiping, cheapest_wiping};
 use scr_term::{Op, Spot, profiles_have, run_laws};
 
 impl Draft {
@@ -62,14 +62,7 @@ impl Draft {
         if by == Op::Clear {
             self.turn_to(scene.profile, Pen::plain())
         } else {
-            self.reach(
-                scene,
-                &Target {
-                    row: top,
-                    column: 0,
-                    pen: Pen::plain(),
-                },
-            )
+            self.reach_row(scene, top)
         }
     }
 

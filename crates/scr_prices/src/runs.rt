@@ -1,4 +1,5 @@
 //! Runs: places of a row that one visit paints with one pen.
+ghost use Rattle.std.specs.Prelude.{◌≡◌};
 
 use crate::ways::Target;
 use scr_cells::Pen;
@@ -30,9 +31,13 @@ pub struct Run {
 }
 
 impl Run {
-    // Its first place, with its pen.
+    /// Its first place, with its pen.
     #[inline(always)]
-    pub(crate) fn target(&self) -> Target {
+    pub fn target(&self) -> Target
+        ensures row { result.row ≡ self.now.row }
+        ensures column { result.column ≡ self.now.start }
+        ensures pen { result.pen ≡ self.now.pen }
+    {
         Target {
             row: self.row,
             column: self.start,
