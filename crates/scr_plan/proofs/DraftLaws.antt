@@ -144,17 +144,8 @@ counted profile old mid new begun more spot pen at added bytes keeps paid =
 
 -- ---- one after another
 
-pub keeps_itself : (profile : ProfileView) (picture : PictureView) (draft : Draft) → KeepsAll profile picture draft draft
-keeps_itself profile picture draft waits paid first start right = right
-
 pub keeps_both : (profile : ProfileView) (picture : PictureView) (old mid new : Draft) → KeepsAll profile picture old mid → KeepsAll profile picture mid new → KeepsAll profile picture old new
 keeps_both profile picture old mid new one other waits paid first start right = other waits paid first start (one waits paid first start right)
-
-pub every_itself : (profile : ProfileView) (draft : Draft) → KeepsEvery profile draft draft
-every_itself profile draft aim waits paid first start right = right
-
-pub covers_then : (profile : ProfileView) (picture : PictureView) (covers : ℕ × ℕ → Bool) (old mid new : Draft) → Covers profile picture covers old mid → KeepsAll profile picture mid new → Covers profile picture covers old new
-covers_then profile picture covers old mid new one other waits paid first start right = other (without covers waits) paid first start (one waits paid first start right)
 
 pub then_covers : (profile : ProfileView) (picture : PictureView) (covers : ℕ × ℕ → Bool) (old mid new : Draft) → KeepsAll profile picture old mid → Covers profile picture covers mid new → Covers profile picture covers old new
 then_covers profile picture covers old mid new one other waits paid first start right = other waits paid first start (one waits paid first start right)
@@ -378,14 +369,6 @@ chars_covers laws grids profile p picture fits painter who row column end order 
 
 -- ---- a run
 
--- a run off the screen
-pub run_off : (profile : ProfileView) (picture : PictureView) (run : Run) (draft : Draft) → picture.rows ≤ run.row → Covers profile picture (is_in run) draft draft
-run_off profile picture run draft low waits = weaker_inside profile picture waits (without (is_in run) waits) draft (λ r c high wide e. off r c high (waits (r, c)) e)
-  where
-    off : (r c : ℕ) → r < picture.rows → (b : Bool) → (b && not (is_in run (r, c))) ≡ false → b ≡ false
-    off r c high false e = refl
-    off r c high true e = grind (arith, nat_tests)
-
 -- a run up to the last column
 pub run_inside : (profile : ProfileView) (picture : PictureView) (run : Run) (end : ℕ) (old new : Draft) → ((c : ℕ) → c < picture.columns → c < run.end → c < end) → Covers profile picture (in_part run.row run.start end) old new → Covers profile picture (is_in run) old new
 run_inside profile picture run end old new ends covers waits paid first start before =
@@ -398,12 +381,3 @@ run_inside profile picture run end old new ends covers waits paid first start be
         by : (t : Bool) → ltb c run.end ≡ t → (true && not (in_part run.row run.start end (r, c))) ≡ false
         by true t = let under : c < run.end = grind (arith, nat_tests) in let here : c < end = below under in grind (arith, nat_tests)
         by false t = grind (arith, nat_tests)
-
--- an empty part
-pub covers_empty : (profile : ProfileView) (picture : PictureView) (row from end : ℕ) (draft : Draft) → end ≤ from → Covers profile picture (in_part row from end) draft draft
-covers_empty profile picture row from end draft none waits =
-    weaker profile picture waits (without (in_part row from end) waits) draft (λ place e. still place (waits place) e)
-  where
-    still : (place : ℕ × ℕ) (b : Bool) → (b && not (in_part row from end place)) ≡ false → b ≡ false
-    still place false e = refl
-    still place true e = grind (arith, nat_tests)

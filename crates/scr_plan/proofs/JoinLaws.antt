@@ -71,14 +71,6 @@ row_is_brief profile picture memory row before painter who shows a n =
     ∙ part_same (row_paints (painter_of profile) picture before) (brief_place profile picture memory) (row_differs (painter_of profile) picture before) (differs profile picture memory) row
     (paints_same profile picture memory row before shows) (differs_same profile picture memory row before shows) a n
 
--- before a column no place is painted where the one there does not differ
-pub none_before : (profile : ProfileView) (picture : PictureView) (memory : MemoryView) (row : ℕ) (before : Option (List LookView)) (painter : Painter) → painter ≡ painter_of profile → ShowsRow memory row before
-    → (column : ℕ) → ((c : ℕ) → c < column → differs profile picture memory (row, c) ≡ false) → pen_before painter picture before row column ≡ None
-none_before profile picture memory row before painter who shows zero same = refl
-none_before profile picture memory row before painter who shows (suc c) same =
-    ap (λ p. if row_differs p picture before (row, c) then Some (painter_look p picture (row, c)).pen else None) who
-    ∙ ap (λ b. if b then Some (painter_look (painter_of profile) picture (row, c)).pen else None) (differs_same profile picture memory row before shows c ∙ same c (omega arith))
-
 -- ---- a screen that was cleared
 
 -- a row that is remembered
@@ -165,13 +157,6 @@ one_and_more painter picture before row column next first rest c low high = by (
     by false e = let here : c ≡ column = grind (arith, nat_tests) in ap (λ k. row_differs painter picture before (row, k)) here ∙ first
 
 -- ---- what a step of the loop adds
-
--- places that are passed add nothing
-pub passed_adds : (painter : Painter) (picture : PictureView) (before : Option (List LookView)) (row column next : ℕ) (ops : List Op) → column < next
-    → ((c : ℕ) → column ≤ c → c < next → row_differs painter picture before (row, c) ≡ false)
-    → ops ≡ ops ++ flat_map (row_paints painter picture before) (filter (row_differs painter picture before) (part_places column (next - column) row))
-passed_adds painter picture before row column next ops more same =
-    sym (ap (λ ps. ops ++ flat_map (row_paints painter picture before) ps) (passed painter picture before row column next more same).0 ∙ append-nil ops)
 
 -- a place that is painted adds what leads to it and its character
 pub painted_adds : (painter : Painter) (picture : PictureView) (before : Option (List LookView)) (row column : ℕ) (ops new : List Op) (left : Option PenView) (look : LookView)

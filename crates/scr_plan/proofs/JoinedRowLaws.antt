@@ -1,5 +1,5 @@
 -- The joined repaint, row by row.
-use Rattle.std.proofs.Common.{◌≡◌, ℕ, ◌+◌, ◌-◌, ◌<◌, ◌≤◌, ◌&&◌, ◌⊎◌, inl, inr, not, Bool, true, false, All, refl, sym, ◌∙◌, ap, subst, arith, append_assoc, get_or, nat_lt, Result, Ok, Err, OnOk, List, [], ◌∷◌, ◌++◌, filter, Option, Some, None, zero, suc, if◌then◌else◌, IfOk}
+use Rattle.std.proofs.Common.{◌≡◌, ℕ, ◌+◌, ◌-◌, ◌<◌, ◌≤◌, ◌⊎◌, inl, inr, not, Bool, true, false, All, refl, sym, ◌∙◌, ap, subst, arith, append_assoc, get_or, nat_lt, Result, Ok, Err, OnOk, List, [], ◌∷◌, ◌++◌, filter, Option, Some, None, zero, suc, if◌then◌else◌, IfOk}
 use Rattle.std.specs.List.{flat_map}
 use Rattle.std.proofs.lemmas.Bool.Decides.{nat_tests}
 use Rattle.std.proofs.lemmas.List.{append-nil}
@@ -23,9 +23,9 @@ use Rattle.scr_plan.proofs.JoiningLaws.{counts_less, goes_on, nothing_goes, put_
 use Rattle.scr_plan.proofs.PartLaws.{none_in_part, pen_refl, outside_above, outside_below, part_joined, row_in_part, row_known, row_more, row_same, rows_same, same_place}
 use Rattle.scr_plan.proofs.PlaceLaws.{cell_of}
 use Rattle.scr_plan.proofs.PlacesLaws.{is_among}
-use Rattle.scr_plan.proofs.PlainLaws.{among_differing, pen_same}
+use Rattle.scr_plan.proofs.PlainLaws.{among_differing}
 use Rattle.scr_plan.specs.Code.Planning.{IsSameRow}
-use Rattle.scr_plan.specs.Code.Joinings.{Continues, CountsAtMost, IsAfter, ShowsRow, counted_up, joined_at}
+use Rattle.scr_plan.specs.Code.Joinings.{Continues, CountsAtMost, ShowsRow, counted_up, joined_at}
 use Rattle.scr_plan.specs.Code.Painters.{is_that_pen, painter_begins, painter_look, painter_of, painter_writes, part_places, pen_before, row_differs, row_paints}
 use Rattle.scr_memory.specs.Memories.{MemoryView, is_known}
 use Rattle.scr_plan.specs.Repaints.{IsSizeOf, ShowsOutside, begins_place, brief_place, differing, differs, erased_column, is_none_left, joins_left}
@@ -35,20 +35,10 @@ use Rattle.scr_plan.specs.declared.painting.Painter.{Painter}
 
 -- ---- after a place that was painted
 
-pub there_already : (columns : ℕ) (joining : Draft) (row column : ℕ) (left : Option PenView) (pen : PenView) → is_that_pen left pen ≡ true → IsAfter columns joining row column left → column < columns
-    → (joining.spot ≡ At row column) × (joining.pen ≡ pen)
-there_already columns joining row column None pen that behind wide = (cc)
-there_already columns joining row column (Some p) pen that behind wide = (behind.1 wide, behind.0 ∙ pen_same p pen that)
-
 pub unless_there : (profile : ProfileView) (painter : Painter) (old : Draft) (left : Option PenView) (place : ℕ × ℕ) (pen : PenView) → is_that_pen left pen ≡ true
     → Continues profile old old (if is_that_pen left pen then [] else painter_begins painter place pen)
 unless_there profile painter old left place pen that =
     subst (Continues profile old old) (sym (ap (λ b. if b then [] else painter_begins painter place pen) that)) (nothing_goes profile old)
-
-pub unless_led : (profile : ProfileView) (painter : Painter) (old new : Draft) (left : Option PenView) (place : ℕ × ℕ) (pen : PenView) → is_that_pen left pen ≡ false → Continues profile old new (painter_begins painter place pen)
-    → Continues profile old new (if is_that_pen left pen then [] else painter_begins painter place pen)
-unless_led profile painter old new left place pen other led =
-    subst (Continues profile old new) (sym (ap (λ b. if b then [] else painter_begins painter place pen) other)) led
 
 -- ---- a place of a row
 
@@ -74,12 +64,6 @@ painted_goes profile painter picture before row column old new left look differs
     subst (Continues profile old new) (painted_adds painter picture before row column [] (painter_writes painter left (row, column) look) left look differs is_left is_look refl) goes
 
 -- ---- a part of a row
-
-pub none_yet : (profile : ProfileView) (painter : Painter) (picture : PictureView) (before : Option (List LookView)) (row from : ℕ) (old : Draft)
-    → Continues profile old old (flat_map (row_paints painter picture before) (filter (row_differs painter picture before) (part_places from (from - from) row)))
-none_yet profile painter picture before row from old =
-    let zero_of : from - from ≡ 0 = omega arith in
-    subst (Continues profile old old) (sym (ap (λ n. flat_map (row_paints painter picture before) (filter (row_differs painter picture before) (part_places from n row))) zero_of)) (nothing_goes profile old)
 
 pub part_goes : (profile : ProfileView) (painter : Painter) (picture : PictureView) (before : Option (List LookView)) (row from column next : ℕ) (old mid new : Draft) → from ≤ column → column < next
     → Continues profile old mid (flat_map (row_paints painter picture before) (filter (row_differs painter picture before) (part_places from (column - from) row)))
@@ -238,10 +222,6 @@ pub left_or_not : (profile : ProfileView) (picture : PictureView) (memory : Memo
     → (some ≡ true → (r : ℕ) × (c : ℕ) × (r < picture.rows) × (c < picture.columns) × (differs profile picture memory (r, c) ≡ true)) → is_none_left (differing profile picture memory) ≡ not some
 left_or_not profile picture memory true none one = let found = one refl in some_left profile picture memory found.0 found.1 found.2 found.3 found.4
 left_or_not profile picture memory false none one = none_left_at profile picture memory (none refl)
-
-pub not_placed : (none placed : Bool) → placed ≡ false → (none && placed) ≡ false
-not_placed true placed e = e
-not_placed false placed e = refl
 
 -- ---- answers
 

@@ -1,8 +1,7 @@
 -- The joined repaint, operation by operation.
-use Rattle.std.proofs.Common.{◌≡◌, ℕ, ◌+◌, ◌<◌, ◌||◌, ◌⊎◌, inl, inr, Bool, true, false, refl, sym, ◌∙◌, ap, subst, arith, append_assoc, drop, get_or, take, List, [], ◌∷◌, ◌++◌, length, map, Option, Some, None, option_and_then, if◌then◌else◌}
+use Rattle.std.proofs.Common.{◌≡◌, ℕ, ◌+◌, ◌||◌, ◌⊎◌, inl, inr, Bool, true, false, refl, sym, ◌∙◌, ap, subst, arith, append_assoc, drop, List, [], ◌∷◌, ◌++◌, length, map, Option, Some, None, option_and_then, if◌then◌else◌}
 use Rattle.std.specs.List.{All}
-use Rattle.std.proofs.lemmas.List.{append-nil, take_more}
-use Rattle.std.proofs.lemmas.List.Elements.{All-get_or}
+use Rattle.std.proofs.lemmas.List.{append-nil}
 use Rattle.std.proofs.lemmas.Nat.{and_le_r}
 use Rattle.std.proofs.Math.Bool.{or-true}
 use Rattle.std.proofs.Math.Seq.{drop-append_seam}
@@ -37,15 +36,6 @@ use Rattle.scr_plan.specs.declared.painting.Painter.{Painter}
 
 counts : (a b : ℕ) → counted_up (a + counted_up b) ≡ counted_up (a + b)
 counts a b = omega arith
-
--- one operation more is counted
-pub counted_more : RunLaws → (profile : ProfileView) (ops : List Op) (i : ℕ) (op : Op) (bytes one : ℕ) → i < length ops → op ≡ get_or ops i op → All (λ op. has profile op ≡ true) ops → bytes ≡ counted_up (price profile (take i ops))
-    → (has profile op ≡ true → one ≡ price profile (op ∷ [])) → counted_up (bytes + one) ≡ counted_up (price profile (take (i + 1) ops))
-counted_more laws profile ops i op bytes one inside is all so_far priced =
-    let had : has profile op ≡ true = ap (has profile) is ∙ All-get_or (λ op. has profile op ≡ true) ops i op inside all in
-    let next : take (i + 1) ops ≡ take i ops ++ op ∷ [] = take_more ops i op inside ∙ ap (λ o. take i ops ++ o ∷ []) (sym is) in
-    let sum : price profile (take (i + 1) ops) ≡ price profile (take i ops) + price profile (op ∷ []) = ap (price profile) next ∙ (price_is laws profile).joined (take i ops) (op ∷ []) in
-    omega (arith, so_far, priced had, sum)
 
 -- ---- steps that change nothing
 

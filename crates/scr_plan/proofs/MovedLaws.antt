@@ -1,14 +1,12 @@
 -- Rows that are settled one after another, once rows were shifted.
-use Rattle.std.proofs.Common.{◌≡◌, ℕ, ◌+◌, ◌-◌, ◌<◌, ◌≤◌, ◌==◌, ◌&&◌, ◌||◌, ◌⊎◌, inl, inr, not, nat_le, leb, ltb, Bool, true, false, All, refl, sym, ◌∙◌, ap, subst, arith, List, [], ◌∷◌, ◌++◌, append_assoc, length, slice_index_or, Option, Some, None, IfSome, if◌then◌else◌}
+use Rattle.std.proofs.Common.{◌≡◌, ℕ, ◌+◌, ◌-◌, ◌<◌, ◌≤◌, ◌==◌, ◌&&◌, ◌||◌, ◌⊎◌, inl, inr, not, nat_le, leb, ltb, Bool, true, false, All, refl, sym, ◌∙◌, ap, subst, arith, List, [], ◌∷◌, ◌++◌, append_assoc, length, slice_index_or, Option, Some, None, if◌then◌else◌}
 use Rattle.std.proofs.lemmas.Bool.Decides.{nat_tests}
-use Rattle.std.proofs.lemmas.List.{append-nil, get_or_append_left, get_or_push}
+use Rattle.std.proofs.lemmas.List.{append-nil}
 use Rattle.std.proofs.lemmas.List.Folds.{list_all-append}
 use Rattle.scr_cells.specs.Grids.{GridLaws, grid_at, grid_of, grid_row, is_in_run, places_left, places_right}
 use Rattle.scr_cells.specs.LookViews.{LookView, blank}
 use Rattle.scr_cells.specs.PenViews.{PenView, is_plain_pen}
 use Rattle.scr_cells.specs.PictureViews.{PictureView}
-use Rattle.scr_virtual.specs.Ranges.{in_range}
-use Rattle.scr_virtual.specs.VirtualViews.{VirtualView}
 use Rattle.scr_term.specs.declared.operations.operation.Op.{Op}
 use Rattle.scr_term.specs.declared.operations.operation.Op.TheVariants.{DeleteChars, InsertChars}
 use Rattle.scr_term.specs.declared.operations.operation.Spot.{Spot}
@@ -19,7 +17,6 @@ use Rattle.scr_term.specs.Operations.States.{TerminalState, IsState, characters_
 use Rattle.scr_term.specs.Operations.Steps.{act, runs}
 use Rattle.scr_term.specs.Operations.Texts.{all_bytes, has}
 use Rattle.scr_plan.proofs.JoinedPriceLaws.{price, price_is}
-use Rattle.scr_plan.proofs.PartLaws.{row_known}
 use Rattle.scr_plan.proofs.PlaceLaws.{one_run, then_runs}
 use Rattle.scr_plan.proofs.PlainLaws.{look_same, not_false}
 use Rattle.scr_plan.proofs.RunChangeLaws.{not_in}
@@ -29,8 +26,8 @@ use Rattle.scr_plan.specs.Code.Joinings.{counted_up}
 use Rattle.scr_plan.specs.Code.Moves.{IsBegun, IsMoved, IsSent, IsSlide, Sends, shifted_at, shown_at}
 use Rattle.scr_plan.specs.Code.Painters.{painter_look, painter_of, row_differs, shown_in}
 use Rattle.scr_plan.specs.Code.Settled.{Aims, HasShown, HasShownIn, IsShownRow, KeepsStill, Settles, SlidesRow, aim_settled, aim_slid, in_first, is_moved, look_from, look_settled, slid_at}
-use Rattle.scr_memory.specs.Memories.{MemoryView, is_known, moves_rows}
-use Rattle.scr_plan.specs.Repaints.{IsSizeOf, ShowsOutside, look_eq}
+use Rattle.scr_memory.specs.Memories.{MemoryView, moves_rows}
+use Rattle.scr_plan.specs.Repaints.{look_eq}
 use Rattle.scr_plan.specs.Scratch.{Fits, look_at}
 use Rattle.scr_plan.specs.declared.painting.Painter.{Painter}
 use Rattle.scr_prices.specs.declared.runs.Run.{Run}
@@ -436,16 +433,3 @@ same_moved profile picture start waits old new ops keeps bytes spot pen moved = 
 
 pub row_shown : (memory : MemoryView) (shift : Shift) (row source : ℕ) (looks : List LookView) → looks ≡ grid_row memory.state.grid source → ((at : ℕ → ℕ → LookView) (c : ℕ) → shifted_at shift at row c ≡ look_from (Some source) at c) → IsShownRow memory.columns (Some shift) memory.state.grid row (Some looks)
 row_shown memory shift row source looks are value c wide = ap (λ looks. slice_index_or looks c blank) are ∙ sym (value (grid_at blank memory.state.grid) c)
-
--- one place more is put together
-pub one_pushed : (items more : List LookView) (look : LookView) (n : ℕ) (f : ℕ → ℕ → LookView) → more ≡ items ++ look ∷ [] → length items ≡ n → ((row c : ℕ) → c < n → slice_index_or items c blank ≡ f row c) → ((row : ℕ) → look ≡ f row n)
-    → (row c : ℕ) → c < n + 1 → slice_index_or more c blank ≡ f row c
-one_pushed items more look n f is long before own row c below = ap (λ items. slice_index_or items c blank) is ∙ by (ltb c n) refl
-  where
-    by : (b : Bool) → ltb c n ≡ b → slice_index_or (items ++ look ∷ []) c blank ≡ f row c
-    by true at =
-        let under : c < n = grind (arith, nat_tests) in
-        get_or_append_left items (look ∷ []) blank c (omega (arith, under, long)) ∙ before row c under
-    by false at =
-        let here : c ≡ n = grind (arith, nat_tests, below) in
-        get_or_push items look blank c (long ∙ sym here) ∙ own row ∙ ap (f row) (sym here)

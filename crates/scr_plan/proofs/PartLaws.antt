@@ -1,5 +1,5 @@
 -- Parts of rows, and the places there that differ.
-use Rattle.std.proofs.Common.{◌≡◌, ℕ, ◌+◌, ◌-◌, ◌<◌, ◌≤◌, ◌==◌, ◌&&◌, not, leb, Bool, true, false, refl, sym, ◌∙◌, ap, arith, get_or, List, [], ◌∷◌, ◌++◌, length, map, filter, Option, Some, None, zero, suc, if◌then◌else◌}
+use Rattle.std.proofs.Common.{◌≡◌, ℕ, ◌+◌, ◌<◌, ◌≤◌, ◌==◌, ◌&&◌, not, leb, Bool, true, false, refl, sym, ◌∙◌, ap, arith, get_or, List, [], ◌∷◌, ◌++◌, length, map, filter, Option, Some, None, zero, suc, if◌then◌else◌}
 use Rattle.std.specs.List.{flat_map, list_all, range_with_len}
 use Rattle.std.specs.Option.{option_eq}
 use Rattle.std.proofs.lemmas.Bool.Decides.{nat_tests}
@@ -51,22 +51,6 @@ none_in_part d a zero r none = refl
 none_in_part d a (suc n) r none =
     ap (λ b. if b then (r, a) ∷ filter d (part_places (a + 1) n r) else filter d (part_places (a + 1) n r)) (none a (omega arith) (omega arith))
     ∙ none_in_part d (a + 1) n r (λ c low high. none c (omega (arith, low)) (omega (arith, high)))
-
--- nothing passes in a part and after it
-pub none_more : (d : ℕ × ℕ → Bool) (a n r : ℕ) → filter d (part_places a n r) ≡ [] → d (r, a + n) ≡ false → filter d (part_places a (n + 1) r) ≡ []
-none_more d a n r none last =
-    ap (filter d) (part_joined a n 1 r)
-    ∙ filter-append d (part_places a n r) ((r, a + n) ∷ [])
-    ∙ ap (λ ps. ps ++ filter d ((r, a + n) ∷ [])) none
-    ∙ ap (λ b. if b then (r, a + n) ∷ [] else []) last
-
--- places of which none passes add nothing
-pub part_skipped : (d : ℕ × ℕ → Bool) (a n k r : ℕ) → filter d (part_places (a + n) k r) ≡ [] → filter d (part_places a (n + k) r) ≡ filter d (part_places a n r)
-part_skipped d a n k r none =
-    ap (filter d) (part_joined a n k r)
-    ∙ filter-append d (part_places a n r) (part_places (a + n) k r)
-    ∙ ap (λ ps. filter d (part_places a n r) ++ ps) none
-    ∙ append-nil (filter d (part_places a n r))
 
 -- what passes in a row passes in a part of it
 pub row_in_part : (d : ℕ × ℕ → Bool) (a n rest r : ℕ) → ((c : ℕ) → c < a → d (r, c) ≡ false) → ((c : ℕ) → a + n ≤ c → c < a + n + rest → d (r, c) ≡ false)
@@ -160,24 +144,6 @@ outside_above from last c above = let e : leb c last ≡ false = grind (arith, n
     and_false : (b : Bool) → (b && false) ≡ false
     and_false true = refl
     and_false false = refl
-
-pub row_changed : (ranges : VirtualView → ℕ → Option (ℕ × ℕ)) (profile : ProfileView) (memory : MemoryView) (virtual : VirtualView) → ShowsOutside ranges profile memory virtual → IsSizeOf virtual.picture memory → is_known memory ≡ true
-    → (r from last : ℕ) → r < virtual.picture.rows → from ≤ last → last < virtual.picture.columns → ranges virtual r ≡ Some (from, last)
-    → filter (differs profile virtual.picture memory) (row_places virtual.picture.columns r) ≡ filter (differs profile virtual.picture memory) (part_places from (last + 1 - from) r)
-row_changed ranges profile memory virtual same size known r from last high order wide range =
-    let columns : virtual.picture.columns ≡ from + (last + 1 - from) + (virtual.picture.columns - (last + 1)) = omega (arith, order, wide) in
-    let d = differs profile virtual.picture memory in
-    ap (λ n. filter d (part_places 0 n r)) columns
-    ∙ row_in_part d from (last + 1 - from) (virtual.picture.columns - (last + 1)) r
-    (λ c below. same_place ranges profile memory virtual same size known r c high (omega (arith, below, order, wide)) (ap (λ range. in_range range c) range ∙ outside_below from last c below))
-    (λ c low few. same_place ranges profile memory virtual same size known r c high (omega (arith, few, order, wide)) (ap (λ range. in_range range c) range ∙ outside_above from last c (omega (arith, low, order))))
-
--- right before the columns that have changed nothing differs
-pub before_changed : (ranges : VirtualView → ℕ → Option (ℕ × ℕ)) (profile : ProfileView) (memory : MemoryView) (virtual : VirtualView) → ShowsOutside ranges profile memory virtual → IsSizeOf virtual.picture memory → is_known memory ≡ true
-    → (r from last c : ℕ) → r < virtual.picture.rows → from ≤ last → last < virtual.picture.columns → ranges virtual r ≡ Some (from, last) → c < from
-    → differs profile virtual.picture memory (r, c) ≡ false
-before_changed ranges profile memory virtual same size known r from last c high order wide range below =
-    same_place ranges profile memory virtual same size known r c high (omega (arith, below, order, wide)) (ap (λ range. in_range range c) range ∙ outside_below from last c below)
 
 -- a row of a memory that knows all
 pub row_known : (memory : MemoryView) → is_known memory ≡ true → (r : ℕ) → r < length memory.known_rows → is_known_row memory r ≡ true

@@ -5,20 +5,15 @@ use Rattle.std.proofs.lemmas.Bool.Decides.{nat_tests}
 use Rattle.std.proofs.lemmas.List.{append-nil, length-append}
 use Rattle.scr_cells.specs.PictureViews.{PictureView}
 use Rattle.scr_term.specs.declared.operations.operation.Op.{Op}
-use Rattle.scr_term.specs.declared.operations.operation.Op.TheVariants.{Put}
 use Rattle.scr_term.specs.Operations.Profiles.{ProfileView}
 use Rattle.scr_plan.specs.declared.painting.Painter.{Painter}
 use Rattle.scr_plan.specs.Code.Painters.{painter_of, painter_resets}
 use Rattle.scr_memory.specs.Memories.{MemoryView, is_placed}
 use Rattle.scr_plan.specs.Repaints.{differing, is_none_left}
-use Rattle.scr_plan.specs.Scratch.{goes, look_at, paints_place, places, places_cursor, renders, resets, row_places}
+use Rattle.scr_plan.specs.Scratch.{places, places_cursor, resets, row_places}
 use Rattle.scr_plan.proofs.PartLaws.{row_more}
 
 -- ---- whether a place was painted
-
-pub plain_some : (profile : ProfileView) (picture : PictureView) (place : ℕ × ℕ) → 1 ≤ length (paints_place profile picture place)
-plain_some profile picture place =
-    omega (arith, length-append (goes profile place ++ renders (look_at profile picture place).pen) (Put (look_at profile picture place).byte ∷ []))
 
 none_left : (first : List Op) (f : ℕ × ℕ → List Op) → ((place : ℕ × ℕ) → 1 ≤ length (f place)) → (xs : List (ℕ × ℕ)) → (length (first ++ flat_map f xs) == length first) ≡ is_none_left xs
 none_left first f some [] = let same : length (first ++ []) ≡ length first = ap length (append-nil first) in grind (arith, nat_tests)

@@ -1,17 +1,15 @@
 -- Runs that wait: what is in them.
-use Rattle.std.proofs.Common.{◌≡◌, ℕ, zero, suc, ◌+◌, ◌-◌, ◌<◌, ◌≤◌, ◌==◌, ◌&&◌, ◌||◌, not, Bool, true, false, refl, sym, ◌∙◌, ap, arith, List, [], ◌∷◌, ◌++◌, drop, get_or, length, length-drop, ltb, option_map, set, take, Some}
+use Rattle.std.proofs.Common.{◌≡◌, ℕ, zero, suc, ◌-◌, ◌<◌, ◌≤◌, ◌==◌, ◌&&◌, ◌||◌, not, Bool, true, false, refl, sym, ◌∙◌, ap, arith, List, [], ◌∷◌, ◌++◌, drop, get_or, length, length-drop, ltb, option_map, set, take}
 use Rattle.std.proofs.lemmas.Bool.Decides.{nat_tests}
 use Rattle.std.proofs.lemmas.List.{take_all}
 use Rattle.scr_cells.specs.PictureViews.{PictureView}
 use Rattle.scr_term.specs.Operations.Profiles.{ProfileView}
 use Rattle.scr_plan.proofs.DraftLaws.{weaker}
-use Rattle.scr_plan.specs.Code.Drafts.{Covers, KeepsAll, KeepsOthers, KeepsRuns, Leaves, in_runs, is_in, no_run, without}
+use Rattle.scr_plan.specs.Code.Drafts.{Covers, KeepsOthers, KeepsRuns, Leaves, in_runs, is_in, no_run, without}
 use Rattle.scr_plan.specs.Code.Painters.{row_differs}
 use Rattle.scr_plan.specs.Code.Runs.{CutsOff, IsSameRow, differs_at}
-use Rattle.scr_plan.specs.Code.Settled.{KeepsStill, is_moved}
 use Rattle.scr_plan.specs.declared.runs.Cut.{Cut}
 use Rattle.scr_prices.specs.declared.runs.Run.{Run}
-use Rattle.scr_prices.specs.declared.shifts.Shift.{Shift}
 use Rattle.scr_plan.specs.declared.strokes.Draft.{Draft}
 
 -- ---- runs that are visited
@@ -69,14 +67,8 @@ popped profile picture runs left run old new is covers paid first start right =
         one true = refl
         one false = refl
 
-pub leaves_itself : (profile : ProfileView) (picture : PictureView) (runs : List Run) (draft : Draft) → Leaves profile picture runs runs draft draft
-leaves_itself profile picture runs draft paid first start right = right
-
 pub leaves_then : (profile : ProfileView) (picture : PictureView) (runs some left : List Run) (old mid new : Draft) → Leaves profile picture runs some old mid → Leaves profile picture some left mid new → Leaves profile picture runs left old new
 leaves_then profile picture runs some left old mid new one other paid first start right = other paid first start (one paid first start right)
-
-pub leaves_keeps : (profile : ProfileView) (picture : PictureView) (runs left : List Run) (old mid new : Draft) → Leaves profile picture runs left old mid → KeepsAll profile picture mid new → Leaves profile picture runs left old new
-leaves_keeps profile picture runs left old mid new one other paid first start right = other (in_runs left) paid first start (one paid first start right)
 
 -- the rest of a list, as a slice of it
 pub rest_of : (n : ℕ) (runs : List Run) → take (length runs - n) (drop n runs) ≡ drop n runs
@@ -147,25 +139,3 @@ cut_more start old new run some more same cuts is has c low high differs = by (l
         one_more some more run (start.line.row, c) is (ap (λ line. is_in run (line.row, c)) (sym same.line) ∙ cuts.has c over high there)
 
 -- ---- runs of rows that a shift does not change
-
-still_taken : (found : List Run) (n : ℕ) (run : Run) (place : ℕ × ℕ) → take (n + 1) found ≡ take n found ++ run ∷ [] → in_runs (take (n + 1) found) place ≡ (in_runs (take n found) place || is_in run place)
-still_taken found n run place is = ap (λ runs. in_runs runs place) is ∙ in_both (take n found) (run ∷ []) place ∙ ap (λ b. in_runs (take n found) place || b) (or_nothing (is_in run place))
-
--- one that is kept, and one that is not because the shift changes its row
-pub still_kept : (shift : Shift) (found some more : List Run) (n : ℕ) (run : Run) → take (n + 1) found ≡ take n found ++ run ∷ [] → more ≡ some ++ run ∷ [] → KeepsStill shift (take n found) some → KeepsStill shift (take (n + 1) found) more
-still_kept shift found some more n run taken is keeps place still e = by (in_runs (take n found) place) (is_in run place) refl refl (sym (still_taken found n run place taken) ∙ e)
-  where
-    by : (a b : Bool) → in_runs (take n found) place ≡ a → is_in run place ≡ b → (a || b) ≡ true → in_runs more place ≡ true
-    by true b before here e = in_more some (run ∷ []) more is place (keeps place still before)
-    by false true before here e = one_more some more run place is here
-    by false false before here e = (cc)
-
-pub still_passed : (shift : Shift) (found some : List Run) (n : ℕ) (run : Run) → take (n + 1) found ≡ take n found ++ run ∷ [] → is_moved (Some shift) run.row ≡ true → KeepsStill shift (take n found) some → KeepsStill shift (take (n + 1) found) some
-still_passed shift found some n run taken moved keeps place still e = by (in_runs (take n found) place) (is_in run place) refl refl (sym (still_taken found n run place taken) ∙ e)
-  where
-    by : (a b : Bool) → in_runs (take n found) place ≡ a → is_in run place ≡ b → (a || b) ≡ true → in_runs some place ≡ true
-    by true b before here e = keeps place still before
-    by false true before here e =
-        let row : place.0 ≡ run.row = grind (arith, nat_tests) in
-        (cc (moved, still, ap (is_moved (Some shift)) row))
-    by false false before here e = (cc)

@@ -1,12 +1,10 @@
 -- The short plan is all that an update wants, where it has no more bytes than the joined repaint.
-use Rattle.std.proofs.Common.{◌≡◌, ℕ, ◌+◌, ◌*◌, ◌-◌, ◌^◌, ◌<◌, ◌≤◌, ◌==◌, ◌&&◌, ◌||◌, ◌⊎◌, inl, inr, not, Bool, true, false, All, refl, sym, ◌∙◌, ap, subst, append_assoc, arith, bit_and, List, [], ◌∷◌, ◌++◌, length, Option, Some, None, IfSome, if◌then◌else◌}
+use Rattle.std.proofs.Common.{◌≡◌, ℕ, ◌+◌, ◌*◌, ◌-◌, ◌^◌, ◌<◌, ◌≤◌, ◌&&◌, ◌||◌, not, Bool, true, false, All, refl, sym, ◌∙◌, ap, subst, append_assoc, arith, List, [], ◌∷◌, ◌++◌, length, Option, Some, None, IfSome, if◌then◌else◌}
 use Rattle.std.specs.List.{list_all}
-use Rattle.std.specs.Option.{is_none}
-use Rattle.std.proofs.lemmas.Bool.Decides.{nat_tests}
 use Rattle.std.proofs.lemmas.List.{append-nil, length-append}
 use Rattle.scr_cells.specs.Grids.{GridLaws, IsGrid, grid_at}
 use Rattle.scr_cells.specs.LookViews.{LookView, blank}
-use Rattle.scr_cells.specs.PenViews.{PenView, is_plain_pen, plain_pen}
+use Rattle.scr_cells.specs.PenViews.{plain_pen}
 use Rattle.scr_cells.specs.PictureViews.{PictureView, IsPicture}
 use Rattle.scr_virtual.specs.VirtualViews.{VirtualView}
 use Rattle.scr_term.specs.declared.operations.capability.Capability.TheVariants.{Sgr0}
@@ -15,13 +13,13 @@ use Rattle.scr_term.specs.declared.operations.operation.Op.TheVariants.{Clear, R
 use Rattle.scr_term.specs.declared.operations.operation.Spot.TheVariants.{At}
 use Rattle.scr_term.specs.Operations.Abilities.{full_abilities}
 use Rattle.scr_term.specs.Operations.Laws.{BlankLaws, ProfilesHave, RunLaws}
-use Rattle.scr_term.specs.Operations.Profiles.{ProfileView, IsProfile, abilities, has_colours, is_there, shown_set}
-use Rattle.scr_term.specs.Operations.States.{TerminalState, AreShownColours, IsShownPen, IsState, blank_state}
+use Rattle.scr_term.specs.Operations.Profiles.{ProfileView, IsProfile, abilities, is_there}
+use Rattle.scr_term.specs.Operations.States.{TerminalState, IsShownPen, IsState, blank_state}
 use Rattle.scr_term.specs.Operations.Steps.{runs}
 use Rattle.scr_term.specs.Operations.Texts.{all_bytes, has}
 use Rattle.scr_plan.proofs.JoinLaws.{cleared_row}
 use Rattle.scr_plan.proofs.RememberedPlanLaws.{agrees_itself}
-use Rattle.scr_plan.proofs.PlaceLaws.{plain_only, resets_run, then_runs}
+use Rattle.scr_plan.proofs.PlaceLaws.{resets_run, then_runs}
 use Rattle.scr_plan.proofs.PlainLaws.{look_same, not_false}
 use Rattle.scr_plan.proofs.RunChangeLaws.{not_in}
 use Rattle.scr_plan.proofs.RunLaws.{leaves_then}
@@ -263,35 +261,3 @@ partly_plan laws have memories grids profile p virtual k fits memory may due cal
         }
 
 -- ---- which pens a terminal can have
-
-shown_colours : (profile : ProfileView) (b : Bool) → has_colours profile ≡ b → (f g : Option ℕ) → AreShownColours true f g → (b || (is_none f && is_none g)) ≡ true → AreShownColours (has_colours profile) f g
-shown_colours profile true there f g full e = subst (λ b. AreShownColours b f g) (sym there) full
-shown_colours profile false there None None full e = subst (λ b. AreShownColours b None None) (sym there) (refl, refl)
-shown_colours profile false there (Some f) g full e = (cc)
-shown_colours profile false there None (Some g) full e = (cc)
-
-pub pen_shown : (profile : ProfileView) (memory : MemoryView) → IsMemory memory → (a b : Bool) → a ≡ (bit_and (shown_set profile) memory.state.pen.attrs == memory.state.pen.attrs) → b ≡ (has_colours profile || (is_none memory.state.pen.foreground && is_none memory.state.pen.background)) → a ≡ true → b ≡ true → IsShownPen (abilities profile) memory.state.pen
-pen_shown profile memory is a b attrs colours first second =
-    let same : (bit_and (shown_set profile) memory.state.pen.attrs == memory.state.pen.attrs) ≡ true = sym attrs ∙ first in
-    record {
-      attrs = grind (arith, nat_tests, same);
-      colours = shown_colours profile (has_colours profile) refl memory.state.pen.foreground memory.state.pen.background is.state.pen.colours (sym colours ∙ second);
-    }
-
-no_colours : (b : Bool) (f g : Option ℕ) → AreShownColours b f g → (b || (is_none f && is_none g)) ≡ true
-no_colours true f g shown = refl
-no_colours false f g shown = λ i. is_none (shown.0 i) && is_none (shown.1 i)
-
-pub pen_not_shown : (profile : ProfileView) (pen : PenView) (a b : Bool) → a ≡ (bit_and (shown_set profile) pen.attrs == pen.attrs) → b ≡ (has_colours profile || (is_none pen.foreground && is_none pen.background)) → (a && b) ≡ false → IsShownPen (abilities profile) pen → ⊥
-pen_not_shown profile pen a b attrs colours wrong shown =
-    let same : (bit_and (shown_set profile) pen.attrs == pen.attrs) ≡ true = grind (arith, nat_tests, shown.attrs) in
-    let all : (a && b) ≡ true = (λ i. (attrs ∙ same) i && (colours ∙ no_colours (has_colours profile) pen.foreground pen.background shown.colours) i) in
-    never (a && b) all wrong
-
--- a terminal that cannot turn attributes off has a plain pen
-pub resets_or_plain : ProfilesHave → (profile : ProfileView) → IsProfile profile → (pen : PenView) → IsShownPen (abilities profile) pen → (is_there profile Sgr0 ≡ true) ⊎ (is_plain_pen pen ≡ true)
-resets_or_plain have profile p pen shown = by (is_there profile Sgr0) refl
-  where
-    by : (b : Bool) → is_there profile Sgr0 ≡ b → (is_there profile Sgr0 ≡ true) ⊎ (is_plain_pen pen ≡ true)
-    by true there = inl there
-    by false there = inr (ap is_plain_pen (plain_only profile (have profile p) there pen shown))

@@ -20,13 +20,12 @@ use Rattle.scr_term.specs.Operations.Steps.{act, lines_below_erased, runs, step}
 use Rattle.scr_term.specs.Operations.Texts.{all_bytes, has}
 use Rattle.scr_plan.proofs.DraftLaws.{drawn, weaker, weaker_inside}
 use Rattle.scr_plan.proofs.RememberedPlanLaws.{agrees_itself}
-use Rattle.scr_plan.proofs.PartLaws.{look_refl}
 use Rattle.scr_plan.proofs.PlaceLaws.{at_place, move_run, one_run, plain, resets_run, then_runs}
 use Rattle.scr_plan.proofs.PlainLaws.{both, look_same, not_false}
 use Rattle.scr_plan.proofs.RunChangeLaws.{not_in}
-use Rattle.scr_plan.specs.Code.Drafts.{AreUnknown, HasChangesIn, HasDiffering, HasUnsettled, HasUnsettledIn, IsAdded, IsPartly, IsRight, IsRightPlain, Keeps, KeepsAll, KeepsRuns, Knows, Leaves, RightFrom, Wipes, WipesRow, aim_of, in_runs, is_calm, or_below, or_from, or_row, row_wiped, unsettled, wiped}
+use Rattle.scr_plan.specs.Code.Drafts.{AreUnknown, HasUnsettled, HasUnsettledIn, IsAdded, IsPartly, IsRight, IsRightPlain, Keeps, KeepsAll, KeepsRuns, Knows, Leaves, RightFrom, Wipes, WipesRow, aim_of, in_runs, is_calm, or_below, or_from, or_row, row_wiped, unsettled, wiped}
 use Rattle.scr_plan.specs.Code.Joinings.{counted_up}
-use Rattle.scr_plan.specs.Code.Painters.{painter_of, painter_resets, row_differs}
+use Rattle.scr_plan.specs.Code.Painters.{painter_of, painter_resets}
 use Rattle.scr_memory.specs.Memories.{MayBe, MemoryView, all_followed, changes_cells, clears, followed, has_one_pen, is_known, is_known_row, known_from, made_plain, moves_rows, places_spot, rows_erased, sets_pen, stepped}
 use Rattle.scr_memory.specs.MemoryRuns.{MemoryRuns}
 use Rattle.scr_plan.specs.Repaints.{look_eq, look_in}
@@ -405,20 +404,6 @@ row_wipes laws grids profile p picture fits row old new had here plain added wai
 
 -- ---- one row more
 
--- a row that was known
-pub known_passed : (profile : ProfileView) (picture : PictureView) (memory : MemoryView) (row : ℕ) (draft : Draft) → is_known_row memory row ≡ true → Keeps profile picture (unsettled profile picture memory row) (unsettled profile picture memory (row + 1)) draft draft
-known_passed profile picture memory row draft known =
-    weaker profile picture (unsettled profile picture memory row) (unsettled profile picture memory (row + 1)) draft (λ place e. by place (is_known_row memory place.0) refl e)
-  where
-    by : (place : ℕ × ℕ) (b : Bool) → is_known_row memory place.0 ≡ b → (if b then not (look_eq (look_in memory place) (look_at profile picture place)) else (if ltb place.0 (row + 1) then not (look_eq blank (look_at profile picture place)) else true)) ≡ false
-        → (if b then not (look_eq (look_in memory place) (look_at profile picture place)) else (if ltb place.0 row then not (look_eq blank (look_at profile picture place)) else true)) ≡ false
-    by place true at e = e
-    by place false at e = ap (λ t. if t then not (look_eq blank (look_at profile picture place)) else true) (other (place.0 == row) refl) ∙ e
-      where
-        other : (t : Bool) → (place.0 == row) ≡ t → ltb place.0 row ≡ ltb place.0 (row + 1)
-        other true same = let here : row ≡ place.0 = grind (arith, nat_tests) in never (is_known_row memory place.0) (ap (is_known_row memory) (sym here) ∙ known) at
-        other false same = grind (arith, nat_tests)
-
 -- a row that was not known, and was erased
 pub unknown_wiped : (profile : ProfileView) (picture : PictureView) (memory : MemoryView) (row : ℕ) (old new : Draft) → is_known_row memory row ≡ false → WipesRow profile picture row old new
     → Keeps profile picture (unsettled profile picture memory row) (unsettled profile picture memory (row + 1)) old new
@@ -471,29 +456,7 @@ below_more known row r e = by (known r) e
     by true e = refl
     by false e = grind (arith, nat_tests)
 
-pub below_passed : (known : ℕ → Bool) (row r : ℕ) → known row ≡ true → or_below known (row + 1) r ≡ true → or_below known row r ≡ true
-below_passed known row r at e = by (r == row) refl (known r) refl e
-  where
-    by : (t : Bool) → (r == row) ≡ t → (b : Bool) → known r ≡ b → (b || ltb r (row + 1)) ≡ true → (b || ltb r row) ≡ true
-    by t same true is e = refl
-    by true same false is e = let here : row ≡ r = grind (arith, nat_tests) in never (known r) (ap known (sym here) ∙ at) is
-    by false same false is e = grind (arith, nat_tests)
-
 -- ---- what is found
-
-pub known_unsettled : (profile : ProfileView) (picture : PictureView) (memory : MemoryView) (runs : List Run) (row : ℕ) → is_known_row memory row ≡ true → HasChangesIn profile picture memory runs row → HasUnsettledIn profile picture memory runs row
-known_unsettled profile picture memory runs row known found c wide e =
-    ap (λ b. if b then not (look_eq (look_in memory (row, c)) (look_at profile picture (row, c))) else (if ltb row picture.rows then not (look_eq blank (look_at profile picture (row, c))) else true)) known
-    ∙ ap (λ look. not (look_eq look (look_at profile picture (row, c)))) (found c wide e)
-    ∙ ap not (look_refl (look_at profile picture (row, c)))
-
-pub blank_unsettled : (profile : ProfileView) (picture : PictureView) (painter : Painter) → painter ≡ painter_of profile → (memory : MemoryView) (runs : List Run) (row : ℕ) → row < picture.rows → is_known_row memory row ≡ false → HasDiffering painter picture row None 0 picture.columns runs → HasUnsettledIn profile picture memory runs row
-blank_unsettled profile picture painter who memory runs row high unknown has c wide e =
-    let under : ltb row picture.rows ≡ true = grind (arith, nat_tests) in
-    ap (λ b. if b then not (look_eq (look_in memory (row, c)) (look_at profile picture (row, c))) else (if ltb row picture.rows then not (look_eq blank (look_at profile picture (row, c))) else true)) unknown
-    ∙ ap (λ t. if t then not (look_eq blank (look_at profile picture (row, c))) else true) under
-    ∙ ap (λ p. row_differs p picture None (row, c)) (sym who)
-    ∙ not_in (row_differs painter picture None (row, c)) (in_runs runs (row, c)) (has c (omega arith) wide) e
 
 pub one_row_unsettled : (profile : ProfileView) (picture : PictureView) (memory : MemoryView) (some more : List Run) (row : ℕ) → KeepsRuns some more → HasUnsettled profile picture memory some row → HasUnsettledIn profile picture memory more row → HasUnsettled profile picture memory more (row + 1)
 one_row_unsettled profile picture memory some more row keeps above own r high c wide e = by (r == row) refl

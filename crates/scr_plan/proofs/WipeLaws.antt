@@ -1,7 +1,7 @@
 -- Many lines erased at once.
 use Rattle.std.proofs.Common.{◌≡◌, ℕ, ◌+◌, ◌-◌, ◌<◌, ◌≤◌, ◌==◌, ◌&&◌, ◌||◌, not, leb, Bool, true, false, refl, sym, ◌∙◌, ap, subst, arith, List, [], ◌∷◌, ◌++◌, get_or, length, take, Some, None, Result, Ok, Err, OnOk, if◌then◌else◌}
 use Rattle.std.proofs.lemmas.Bool.Decides.{nat_tests}
-use Rattle.std.proofs.lemmas.List.{take_more, take_all}
+use Rattle.std.proofs.lemmas.List.{take_more}
 use Rattle.scr_cells.specs.Grids.{GridLaws, grid_at}
 use Rattle.scr_cells.specs.LookViews.{LookView, blank, blank_grid}
 use Rattle.scr_cells.specs.PenViews.{is_plain_pen}
@@ -117,9 +117,6 @@ wipe_leaves profile picture painter who top all some more old mid new above keep
         not_in (in_runs all (r, c)) (in_runs more (r, c)) (λ is. keeps (r, c) (above (r, c) under is)) e
 
 -- ---- the runs above
-
-pub none_dropped : (top : ℕ) (runs : List Run) (kept : ℕ) → kept ≡ length runs → KeepsAbove top runs (take kept runs)
-none_dropped top runs kept whole place under e = ap (λ r. in_runs r place) (take_all kept runs (omega (arith, whole))) ∙ e
 
 pub one_dropped : (top : ℕ) (runs : List Run) (kept : ℕ) (d : Run) → 0 < kept → kept ≤ length runs → top ≤ (get_or runs (kept - 1) d).row → KeepsAbove top runs (take kept runs) → KeepsAbove top runs (take (kept - 1) runs)
 one_dropped top runs kept d some inside low above place under e =

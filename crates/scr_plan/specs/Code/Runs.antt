@@ -1,5 +1,5 @@
 -- Cutting a row into runs.
-use Rattle.std.specs.Prelude.{ℕ, ◌≡◌, ◌<◌, ◌≤◌, Bool, true, List, length, option_map}
+use Rattle.std.specs.Prelude.{ℕ, ◌≡◌, ◌<◌, ◌≤◌, Bool, true, option_map}
 use Rattle.scr_plan.specs.Code.Drafts.{is_in}
 use Rattle.scr_plan.specs.Code.Painters.{row_differs}
 use Rattle.scr_plan.specs.Code.Scenes.{IsLine}

@@ -1,6 +1,6 @@
-use Rattle.std.proofs.Common.{subst, sym}
+use Rattle.std.proofs.Common.{subst}
 use Rattle.scr_plan.specs.Code.Drafts.{in_runs}
-use Rattle.scr_plan.specs.Code.Moves.{IsChanged, IsMoved}
+use Rattle.scr_plan.specs.Code.Moves.{IsChanged}
 use Rattle.scr_plan.proofs.MovedLaws.{same_moved}
 use Rattle.scr_plan.proofs.ShortPlanLaws.{changes_done}
 use Rattle.scr_plan.proofs.short_plan.short_changes.Goals as goal

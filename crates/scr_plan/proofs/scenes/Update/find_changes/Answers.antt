@@ -1,4 +1,4 @@
-use Rattle.std.proofs.Common.{arith, false, inr, ℕ, rules, true, ◌≡◌, ◌<◌, ◌≤◌, ◌⊎◌}
+use Rattle.std.proofs.Common.{arith, false, inr, rules, ◌≡◌, ◌<◌, ◌≤◌}
 use Rattle.scr_plan.specs.Code.Planning.{IsSameRow, range_by}
 use Rattle.scr_plan.specs.Code.Drafts.{HasChangesIn}
 use Rattle.scr_plan.specs.Repaints.{differs}

@@ -1,6 +1,5 @@
-use Rattle.std.proofs.Common.{arith, subst, ◌∙◌, option_map, Some}
+use Rattle.std.proofs.Common.{arith, subst, option_map, Some}
 use Rattle.scr_plan.specs.Code.Drafts.{HasDiffering}
-use Rattle.scr_plan.specs.Code.Settled.{IsShownRow}
 use Rattle.scr_plan.proofs.MovedLaws.{shown_found}
 use Rattle.scr_plan.proofs.scenes.Update.find_in_moved.Goals as goal
 

@@ -1,4 +1,4 @@
-use Rattle.std.proofs.Common.{ap, arith, false, true, ℕ, Some, subst, sym, ◌≡◌, ◌<◌, ◌≤◌, ◌∙◌, ◌+◌}
+use Rattle.std.proofs.Common.{ap, arith, true, ℕ, Some, subst, sym, ◌≡◌, ◌<◌, ◌≤◌, ◌∙◌, ◌+◌}
 use Rattle.scr_plan.specs.Code.Drafts.{HasChangesIn, HasDiffering}
 use Rattle.scr_plan.specs.Code.Painters.{row_differs}
 use Rattle.scr_plan.specs.Code.Planning.{range_by}

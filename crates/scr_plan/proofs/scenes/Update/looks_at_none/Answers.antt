@@ -1,4 +1,4 @@
-use Rattle.std.proofs.Common.{arith, inl, inr, ◌⊎◌, ◌<◌, ◌≤◌}
+use Rattle.std.proofs.Common.{arith, ◌⊎◌, ◌<◌, ◌≤◌}
 use Rattle.std.proofs.lemmas.Bool.Decides.{nat_tests}
 use Rattle.scr_plan.specs.Code.Planning.{range_by}
 use Rattle.scr_plan.proofs.JoinedRowLaws.{none_left_at, unlooked_same}

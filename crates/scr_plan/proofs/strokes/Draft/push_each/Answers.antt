@@ -1,6 +1,4 @@
-use Rattle.std.proofs.Common.{ap, arith, refl, subst, ◌≡◌, ◌∙◌, ◌≤◌, ◌-◌, ◌+◌}
-use Rattle.scr_term.specs.Operations.States.{spot_after}
-use Rattle.scr_plan.specs.Code.Joinings.{counted_up}
+use Rattle.std.proofs.Common.{ap, arith, refl, subst, ◌≡◌, ◌∙◌, ◌≤◌}
 use Rattle.scr_plan.specs.Code.Drafts.{IsPut}
 use Rattle.scr_plan.proofs.DraftLaws.{put_more, put_none}
 use Rattle.scr_plan.proofs.LookingLaws.{look_by}

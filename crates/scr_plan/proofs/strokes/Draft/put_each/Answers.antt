@@ -1,4 +1,4 @@
-use Rattle.std.proofs.Common.{ap, sym, ◌∙◌, ◌+◌, ◌-◌, true, false, ◌≡◌}
+use Rattle.std.proofs.Common.{ap, ◌∙◌, ◌+◌, ◌-◌}
 use Rattle.scr_term.specs.Operations.States.{spot_after}
 use Rattle.scr_plan.specs.Code.Joinings.{counted_up}
 use Rattle.scr_plan.proofs.DraftLaws.{never_kept, put_counted}

@@ -1,4 +1,4 @@
-use Rattle.std.proofs.Common.{arith, refl, Some, ◌==◌, ◌≡◌, false}
+use Rattle.std.proofs.Common.{arith, refl, ◌==◌, ◌≡◌, false}
 use Rattle.std.proofs.lemmas.Bool.Decides.{nat_tests}
 use Rattle.scr_plan.proofs.MovedLaws.{row_stays, slid_settled}
 use Rattle.scr_plan.proofs.WipeLaws.{on_ok_both}
