@@ -132,26 +132,8 @@ row_with_rest profile picture row before painter who from e left order wide outs
 
 -- ---- rows of what is remembered
 
--- outside the columns that are looked at nothing differs
-pub outside_looks : (ranges : VirtualView → ℕ → Option (ℕ × ℕ)) (profile : ProfileView) (memory : MemoryView) (virtual : VirtualView) → ShowsOutside ranges profile memory virtual → IsSizeOf virtual.picture memory → is_known memory ≡ true
-    → (painter : Painter) → painter ≡ painter_of profile → (r from last : ℕ) (looks : List LookView) → r < virtual.picture.rows → ranges virtual r ≡ Some (from, last) → looks ≡ grid_row memory.state.grid r
-    → (c : ℕ) → (c < from) ⊎ (last + 1 ≤ c) → c < virtual.picture.columns → row_differs painter virtual.picture (Some looks) (r, c) ≡ false
-outside_looks ranges profile memory virtual same size known painter who r from last looks high range are c out wide =
-    let row = row_known memory known r (omega (arith, high, size.known_rows)) in
-    ap (λ p. row_differs p virtual.picture (Some looks) (r, c)) who ∙ differs_same profile virtual.picture memory r (Some looks) (known_row memory r looks row are) c
-    ∙ same_place ranges profile memory virtual same size known r c high wide (ap (λ range. in_range range c) range ∙ by out)
-  where
-    by : (c < from) ⊎ (last + 1 ≤ c) → in_range (Some (from, last)) c ≡ false
-    by (inl below) = outside_below from last c below
-    by (inr above) = outside_above from last c (omega (arith, above))
-
 pub shows_row : (profile : ProfileView) (memory : MemoryView) (virtual : VirtualView) → IsSizeOf virtual.picture memory → is_known memory ≡ true → (r : ℕ) (looks : List LookView) → r < virtual.picture.rows → looks ≡ grid_row memory.state.grid r → ShowsRow memory r (Some looks)
 shows_row profile memory virtual size known r looks high are = known_row memory r looks (row_known memory known r (omega (arith, high, size.known_rows))) are
-
--- a row in which nothing differs
-pub same_goes : (profile : ProfileView) (picture : PictureView) (memory : MemoryView) (r : ℕ) → IsSameRow profile picture memory r → (old : Draft) → Continues profile old old (flat_map (joined_at profile picture memory) (filter (differs profile picture memory) (row_places picture.columns r)))
-same_goes profile picture memory r same old =
-    subst (Continues profile old old) (sym (ap (flat_map (joined_at profile picture memory)) (none_in_part (differs profile picture memory) 0 picture.columns r (λ c low wide. same c (omega (arith, wide)))))) (nothing_goes profile old)
 
 -- ---- all rows
 
@@ -162,26 +144,6 @@ pub rows_go : (profile : ProfileView) (picture : PictureView) (memory : MemoryVi
     → Continues profile old new (flat_map (joined_at profile picture memory) (filter (differs profile picture memory) (places (row + 1) columns)))
 rows_go profile picture memory row columns old mid new first second =
     subst (Continues profile old new) (sym (row_more (joined_at profile picture memory) (differs profile picture memory) row columns)) (goes_on profile old mid new _ _ first second)
-
--- rows before the first that is looked at, and from the end of these on
-pub begin_rows : (ranges : VirtualView → ℕ → Option (ℕ × ℕ)) (profile : ProfileView) (memory : MemoryView) (virtual : VirtualView) → ShowsOutside ranges profile memory virtual → IsSizeOf virtual.picture memory → is_known memory ≡ true
-    → (first : ℕ) → first ≤ virtual.picture.rows → ((r : ℕ) → r < first → r < virtual.picture.rows → ranges virtual r ≡ None) → filter (differs profile virtual.picture memory) (places first virtual.picture.columns) ≡ []
-begin_rows ranges profile memory virtual same size known first high none =
-    ap (λ n. filter (differs profile virtual.picture memory) (places n virtual.picture.columns)) (sym (from_zero first))
-    ∙ rows_same (differs profile virtual.picture memory) 0 first virtual.picture.columns
-    (λ r low below. row_same ranges profile memory virtual same size known r (omega (arith, below, high)) (none r (omega (arith, below)) (omega (arith, below, high))))
-  where
-    from_zero : (n : ℕ) → 0 + n ≡ n
-    from_zero n = omega arith
-
-pub end_rows : (ranges : VirtualView → ℕ → Option (ℕ × ℕ)) (profile : ProfileView) (memory : MemoryView) (virtual : VirtualView) → ShowsOutside ranges profile memory virtual → IsSizeOf virtual.picture memory → is_known memory ≡ true
-    → (end : ℕ) → end ≤ virtual.picture.rows → ((r : ℕ) → end ≤ r → r < virtual.picture.rows → ranges virtual r ≡ None)
-    → filter (differs profile virtual.picture memory) (places virtual.picture.rows virtual.picture.columns) ≡ filter (differs profile virtual.picture memory) (places end virtual.picture.columns)
-end_rows ranges profile memory virtual same size known end high none =
-    let whole : virtual.picture.rows ≡ end + (virtual.picture.rows - end) = omega (arith, high) in
-    ap (λ n. filter (differs profile virtual.picture memory) (places n virtual.picture.columns)) whole
-    ∙ rows_same (differs profile virtual.picture memory) end (virtual.picture.rows - end) virtual.picture.columns
-    (λ r low below. row_same ranges profile memory virtual same size known r (omega (arith, below, high)) (none r low (omega (arith, below, high))))
 
 pub nothing_of : (profile : ProfileView) (picture : PictureView) (memory : MemoryView) (n columns : ℕ) (old : Draft) → filter (differs profile picture memory) (places n columns) ≡ []
     → Continues profile old old (flat_map (joined_at profile picture memory) (filter (differs profile picture memory) (places n columns)))
@@ -228,10 +190,6 @@ left_or_not profile picture memory false none one = none_left_at profile picture
 pub on_ok : {T E : Type 0} (r : Result T E) (P Q : Type 0) → (P → Q) → OnOk r P → OnOk r Q
 on_ok (Ok a) P Q f h = f h
 on_ok (Err e) P Q f h = h
-
-pub if_ok : {T E : Type 0} (r : Result T E) (P Q : T → Type 0) → ((a : T) → P a → Q a) → IfOk r P → IfOk r Q
-if_ok (Ok a) P Q f h = f a h
-if_ok (Err e) P Q f h = h
 
 -- ---- places that differ with one pen, counted
 

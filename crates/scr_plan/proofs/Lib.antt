@@ -1,4 +1,5 @@
 pub mod BriefLaws
+pub mod ChangedRowLaws
 pub mod CountLaws
 pub mod DraftLaws
 pub mod JoinLaws
@@ -15,7 +16,6 @@ pub mod PlainLaws
 pub mod PlanMadeLaws
 pub mod PlanningLaws
 pub mod Rows
-pub mod RunChangeLaws
 pub mod RunLaws
 pub mod ScratchLaws
 pub mod ScratchTextLaws

@@ -18,14 +18,13 @@ use Rattle.scr_term.specs.Operations.Steps.{act, runs}
 use Rattle.scr_term.specs.Operations.Texts.{all_bytes, has}
 use Rattle.scr_plan.proofs.JoinedPriceLaws.{price, price_is}
 use Rattle.scr_plan.proofs.PlaceLaws.{one_run, then_runs}
-use Rattle.scr_plan.proofs.PlainLaws.{look_same, not_false}
-use Rattle.scr_plan.proofs.RunChangeLaws.{not_in}
+use Rattle.scr_plan.proofs.PlainLaws.{look_same, not_false, not_in}
 use Rattle.scr_plan.proofs.RunLaws.{in_both}
 use Rattle.scr_plan.specs.Code.Drafts.{Aim, HasDiffering, IsAdded, IsAimed, KeepsAbove, KeepsEvery, KeepsRuns, in_runs, is_calm}
 use Rattle.scr_plan.specs.Code.Joinings.{counted_up}
 use Rattle.scr_plan.specs.Code.Moves.{IsBegun, IsMoved, IsSent, IsSlide, Sends, shifted_at, shown_at}
 use Rattle.scr_plan.specs.Code.Painters.{painter_look, painter_of, row_differs, shown_in}
-use Rattle.scr_plan.specs.Code.Settled.{Aims, HasShown, HasShownIn, IsShownRow, KeepsStill, Settles, SlidesRow, aim_settled, aim_slid, in_first, is_moved, look_from, look_settled, slid_at}
+use Rattle.scr_plan.specs.Code.Settled.{Aims, HasShown, HasShownIn, IsShownRow, Settles, SlidesRow, aim_settled, aim_slid, in_first, is_moved, look_from, look_settled, slid_at}
 use Rattle.scr_memory.specs.Memories.{MemoryView, moves_rows}
 use Rattle.scr_plan.specs.Repaints.{look_eq}
 use Rattle.scr_plan.specs.Scratch.{Fits, look_at}
@@ -172,27 +171,6 @@ not_moved (Some shift) at r c e = go shift.up
     go : (b : Bool) → (if b then (if leb shift.top r && ltb r shift.end then (if ltb (r + shift.count) shift.end then at (r + shift.count) c else blank) else at r c) else (if leb shift.top r && ltb r shift.end then (if leb (shift.top + shift.count) r then at (r - shift.count) c else blank) else at r c)) ≡ at r c
     go true = ap (λ b. if b then (if ltb (r + shift.count) shift.end then at (r + shift.count) c else blank) else at r c) e
     go false = ap (λ b. if b then (if leb (shift.top + shift.count) r then at (r - shift.count) c else blank) else at r c) e
-
--- rows that a shift changes, and others, whose runs are kept
-pub shown_shifted : (profile : ProfileView) (picture : PictureView) (shift : Shift) (grid : List (List LookView)) (above found some more most all : List Run) → found ≡ above ++ some → HasShown profile picture None grid 0 found
-    → KeepsStill shift above more → KeepsRuns more most → ((r : ℕ) → shift.top ≤ r → r < shift.end → HasShownIn profile picture (Some shift) grid most r) → KeepsRuns most all → KeepsStill shift some all → HasShown profile picture (Some shift) grid 0 all
-shown_shifted profile picture shift grid above found some more most all is shown first keeps moved keeps_more rest r low high = by (is_moved (Some shift) r) refl
-  where
-    none : (c : ℕ) → in_runs all (r, c) ≡ false → (a b : Bool) → (a ≡ true → in_runs all (r, c) ≡ true) → (b ≡ true → in_runs all (r, c) ≡ true) → (a || b) ≡ false
-    none c e true b f g = (cc (f refl, e))
-    none c e false true f g = (cc (g refl, e))
-    none c e false false f g = refl
-
-    by : (b : Bool) → is_moved (Some shift) r ≡ b → HasShownIn profile picture (Some shift) grid all r
-    by true at c wide e =
-        let under : shift.top ≤ r = grind (arith, nat_tests) in
-        let inside : r < shift.end = grind (arith, nat_tests) in
-        shown_kept profile picture (Some shift) grid r most all (λ place _ e. keeps_more place e) (moved r under inside) c wide e
-    by false still c wide e =
-        not_moved (Some shift) (grid_at blank grid) r c still
-        ∙ shown r low high c wide
-        (ap (λ runs. in_runs runs (r, c)) is ∙ in_both above some (r, c)
-        ∙ none c e (in_runs above (r, c)) (in_runs some (r, c)) (λ h. keeps_more (r, c) (keeps (r, c) (first (r, c) still h))) (rest (r, c) still))
 
 -- ---- a slide
 

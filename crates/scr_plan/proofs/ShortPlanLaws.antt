@@ -20,8 +20,7 @@ use Rattle.scr_term.specs.Operations.Texts.{all_bytes, has}
 use Rattle.scr_plan.proofs.JoinLaws.{cleared_row}
 use Rattle.scr_plan.proofs.RememberedPlanLaws.{agrees_itself}
 use Rattle.scr_plan.proofs.PlaceLaws.{resets_run, then_runs}
-use Rattle.scr_plan.proofs.PlainLaws.{look_same, not_false}
-use Rattle.scr_plan.proofs.RunChangeLaws.{not_in}
+use Rattle.scr_plan.proofs.PlainLaws.{look_same, not_false, not_in}
 use Rattle.scr_plan.proofs.RunLaws.{leaves_then}
 use Rattle.scr_plan.proofs.ScratchLaws.{cleared_run, grid_is_painted}
 use Rattle.scr_plan.specs.Code.Drafts.{HasMarks, IsDone, IsPartly, IsRight, Leaves, in_runs}

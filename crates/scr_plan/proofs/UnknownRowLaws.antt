@@ -21,8 +21,7 @@ use Rattle.scr_term.specs.Operations.Texts.{all_bytes, has}
 use Rattle.scr_plan.proofs.DraftLaws.{drawn, weaker, weaker_inside}
 use Rattle.scr_plan.proofs.RememberedPlanLaws.{agrees_itself}
 use Rattle.scr_plan.proofs.PlaceLaws.{at_place, move_run, one_run, plain, resets_run, then_runs}
-use Rattle.scr_plan.proofs.PlainLaws.{both, look_same, not_false}
-use Rattle.scr_plan.proofs.RunChangeLaws.{not_in}
+use Rattle.scr_plan.proofs.PlainLaws.{both, look_same, not_false, not_in}
 use Rattle.scr_plan.specs.Code.Drafts.{AreUnknown, HasUnsettled, HasUnsettledIn, IsAdded, IsPartly, IsRight, IsRightPlain, Keeps, KeepsAll, KeepsRuns, Knows, Leaves, RightFrom, Wipes, WipesRow, aim_of, in_runs, is_calm, or_below, or_from, or_row, row_wiped, unsettled, wiped}
 use Rattle.scr_plan.specs.Code.Joinings.{counted_up}
 use Rattle.scr_plan.specs.Code.Painters.{painter_of, painter_resets}

@@ -1,44 +1,47 @@
 //! The joined repaint of what differs from what is remembered, and of what differs from a blank
 //! screen.
-ghost use Rattle.std.specs.Prelude.{◌≡◌, ◌≢◌, ◌++◌, ◌<◌, ◌≤◌, None, OnOk, filter, length, true};
+ghost use Rattle.std.specs.Prelude.{◌≡◌, ◌≢◌, ◌≤◌, ◌⊎◌, ◌&&◌, ◌++◌, None, IfOk, OnOk, false, filter, length, true};
 ghost use Rattle.std.specs.List.{flat_map};
-ghost use Rattle.scr_plan.specs.Code.Joinings.{Continues, CountsAtMost, joined_at};
-ghost use Rattle.scr_memory.specs.Memories.{is_known};
-ghost use Rattle.scr_plan.specs.Code.Planning.{AreSame};
-ghost use Rattle.scr_plan.specs.Repaints.{cleared, differs, joined_places};
-ghost use Rattle.scr_plan.specs.Scratch.{places_cursor, resets, row_places};
+ghost use Rattle.scr_cells.specs.PenViews.{is_plain_pen};
+ghost use Rattle.scr_term.specs.declared.operations.capability.Capability.TheVariants.{Sgr0};
+ghost use Rattle.scr_term.specs.Operations.Profiles.{is_there};
+ghost use Rattle.scr_term.specs.Operations.Texts.{all_bytes};
+ghost use Rattle.scr_plan.specs.Code.Joinings.{Continues, CountsAtMost, counted_up, joined_at};
+ghost use Rattle.scr_plan.specs.Code.Planning.{AreChanges, IsChange, painted_anew};
 ghost use Rattle.scr_plan.specs.Code.Scenes.{IsScene, IsUpdate};
+ghost use Rattle.scr_plan.specs.Repaints.{anew_of, cleared, differing, differs, is_none_left, joined_of, joined_places};
+ghost use Rattle.scr_plan.specs.Scratch.{places_cursor, resets, row_places};
+ghost use Rattle.scr_memory.specs.Memories.{is_known, is_placed};
 
 use crate::scenes::{Scene, Update};
 use crate::strokes::Draft;
-use scr_cells::NoMemory;
-use scr_term::run_laws;
+use scr_cells::{NoMemory, Size};
+use scr_prices::RowChange;
+use scr_term::{Op, Ops, run_laws};
+use std::alloc::Global;
 
 impl Draft {
     // Adds what paints each place that differs from what is known of it, then what places the
-    // cursor. It goes by the rows that are marked, since no other differs, and stops early once
-    // there are more bytes than the limit, if there is one.
+    // cursor. It stops early once there are more bytes than the limit, if there is one.
     pub(crate) fn join_changes(
         &mut self,
         update: &Update<'_>,
-        rows: &[bool],
+        changes: &[RowChange],
         limit: Option<usize>,
     ) -> Result<(), NoMemory>
         requires update { IsUpdate update.now }
         requires known { is_known update.now.memory.now ≡ true }
-        requires wide { update.now.wanted.now.picture.rows ≤ length rows.now }
-        requires rows { AreSame update.now.scene.profile.now update.now.wanted.now.picture update.now.memory.now rows.now update.now.wanted.now.picture.rows }
+        requires changes { AreChanges update.now.scene.profile.now update.now.wanted.now.picture update.now.memory.now changes.now update.now.wanted.now.picture.rows }
         ensures all { OnOk result (limit ≡ None → Continues update.now.scene.profile.now self.old self.new (joined_places update.now.scene.profile.now update.now.wanted.now.picture update.now.memory.now ++ resets update.now.scene.profile.now ++ places_cursor update.now.wanted.now.picture.wish)) }
         ensures most { OnOk result (CountsAtMost update.now.scene.profile.now self.old self.new (joined_places update.now.scene.profile.now update.now.wanted.now.picture update.now.memory.now ++ resets update.now.scene.profile.now ++ places_cursor update.now.wanted.now.picture.wish)) }
     {
         run_laws();
         let _size = update.wanted.size();
-        let (first, end) = update.by.rows(update.wanted);
-        for row in first..end {
+        for change in changes {
             if self.is_above(limit) {
                 return Ok(());
             }
-            self.join_changed(update, rows, row)?;
+            self.join_change(update, change)?;
         }
         self.finish(&update.scene)
     }
@@ -53,27 +56,16 @@ impl Draft {
         }
     }
 
-    // Adds what paints each place of a row that differs from what is known of it, if the row is
-    // marked.
-    fn join_changed(&mut self, update: &Update<'_>, rows: &[bool], row: u32) -> Result<(), NoMemory>
+    // Adds what paints each place of a row that differs from what is known of it.
+    fn join_change(&mut self, update: &Update<'_>, change: &RowChange) -> Result<(), NoMemory>
         requires update { IsUpdate update.now }
         requires known { is_known update.now.memory.now ≡ true }
-        requires wide { update.now.wanted.now.picture.rows ≤ length rows.now }
-        requires rows { AreSame update.now.scene.profile.now update.now.wanted.now.picture update.now.memory.now rows.now update.now.wanted.now.picture.rows }
-        requires row { row < update.now.wanted.now.picture.rows }
-        ensures { OnOk result (Continues update.now.scene.profile.now self.old self.new (flat_map (joined_at update.now.scene.profile.now update.now.wanted.now.picture update.now.memory.now) (filter (differs update.now.scene.profile.now update.now.wanted.now.picture update.now.memory.now) (row_places update.now.wanted.now.picture.columns row)))) }
+        requires change { IsChange update.now.scene.profile.now update.now.wanted.now.picture update.now.memory.now change.now }
+        ensures { OnOk result (Continues update.now.scene.profile.now self.old self.new (flat_map (joined_at update.now.scene.profile.now update.now.wanted.now.picture update.now.memory.now) (filter (differs update.now.scene.profile.now update.now.wanted.now.picture update.now.memory.now) (row_places update.now.wanted.now.picture.columns change.now.row)))) }
     {
         let _size = update.wanted.size();
-        if !rows[row as usize] {
-            return Ok(());
-        }
-        match update.by.in_row(update.wanted, row) {
-            Some((from, last)) => {
-                let looks = Some(update.memory.looks(row));
-                self.join_row(&update.scene, row, looks, from, last + 1)
-            }
-            None => Ok(()),
-        }
+        let looks = Some(update.memory.looks(change.row));
+        self.join_row(&update.scene, change.row, looks, change.start, change.end)
     }
 
     // Adds what paints each place that is not blank, then what places the cursor.
@@ -97,4 +89,78 @@ impl Draft {
         self.reset(scene)?;
         self.place_cursor(scene, scene.picture.wish())
     }
+}
+
+// The number of bytes of the joined repaint of a cleared screen, after what clears it.
+pub(crate) fn bytes_anew(alloc: Global, scene: &Scene<'_>) -> Result<usize, NoMemory>
+    requires scene { IsScene scene.now }
+    ensures { IfOk result (λ bytes. bytes ≡ counted_up (length (all_bytes scene.now.profile.now (painted_anew scene.now.profile.now scene.now.picture.now)))) }
+{
+    let mut joining = Draft::on_blanks(scene.profile, Vec::new(alloc), false);
+    joining.join_all(scene)?;
+    Ok(joining.bytes)
+}
+
+// What clears the screen, and the joined repaint of it.
+pub(crate) fn joined_anew(alloc: Global, scene: &Scene<'_>) -> Result<Ops, NoMemory>
+    requires scene { IsScene scene.now }
+    ensures { IfOk result (λ ops. ops ≡ anew_of scene.now.profile.now scene.now.picture.now) }
+{
+    let mut ops = Vec::with_capacity(alloc, room_of(scene.picture.size()))?;
+    scene.painter.reset(&mut ops)?;
+    ops.push(Op::Clear)?;
+    let mut joining = Draft::on_blanks(scene.profile, ops, true);
+    joining.join_all(scene)?;
+    Ok(Ops(joining.ops))
+}
+
+// Room for the operations that usually lead to a place: they are counted, and not kept.
+const FEW_OPERATIONS: usize = 16;
+
+// The number of bytes of the joined repaint. If that is above the limit, it may be any number
+// between the two.
+#[inline(never)]
+pub(crate) fn bytes_of_joined(
+    alloc: Global,
+    update: &Update<'_>,
+    changes: &[RowChange],
+    limit: usize,
+) -> Result<usize, NoMemory>
+    requires update { IsUpdate update.now }
+    requires known { is_known update.now.memory.now ≡ true }
+    requires changes { AreChanges update.now.scene.profile.now update.now.wanted.now.picture update.now.memory.now changes.now update.now.wanted.now.picture.rows }
+    requires pen { (is_there update.now.scene.profile.now Sgr0 ≡ true) ⊎ (is_plain_pen update.now.memory.now.state.pen ≡ true) }
+    requires some { (is_none_left (differing update.now.scene.profile.now update.now.wanted.now.picture update.now.memory.now) && is_placed update.now.memory.now update.now.wanted.now.picture.wish) ≡ false }
+    ensures { IfOk result (λ bytes. bytes ≤ counted_up (length (all_bytes update.now.scene.profile.now (joined_of update.now.scene.profile.now update.now.memory.now update.now.wanted.now.picture)))) }
+{
+    let ops = Vec::with_capacity(alloc, FEW_OPERATIONS)?;
+    let mut joining = Draft::on_remembered(&update.scene, update.memory, ops, false)?;
+    joining.join_changes(update, changes, Some(limit))?;
+    Ok(joining.bytes)
+}
+
+// The joined repaint.
+#[inline(never)]
+pub(crate) fn joined(
+    alloc: Global,
+    update: &Update<'_>,
+    changes: &[RowChange],
+) -> Result<Ops, NoMemory>
+    requires update { IsUpdate update.now }
+    requires known { is_known update.now.memory.now ≡ true }
+    requires changes { AreChanges update.now.scene.profile.now update.now.wanted.now.picture update.now.memory.now changes.now update.now.wanted.now.picture.rows }
+    requires pen { (is_there update.now.scene.profile.now Sgr0 ≡ true) ⊎ (is_plain_pen update.now.memory.now.state.pen ≡ true) }
+    requires some { (is_none_left (differing update.now.scene.profile.now update.now.wanted.now.picture update.now.memory.now) && is_placed update.now.memory.now update.now.wanted.now.picture.wish) ≡ false }
+    ensures { IfOk result (λ ops. ops ≡ joined_of update.now.scene.profile.now update.now.memory.now update.now.wanted.now.picture) }
+{
+    let ops = Vec::with_capacity(alloc, room_of(update.wanted.size()))?;
+    let mut joining = Draft::on_remembered(&update.scene, update.memory, ops, true)?;
+    joining.join_changes(update, changes, None)?;
+    Ok(Ops(joining.ops))
+}
+
+// Room for the operations that a line usually takes: its characters, and what leads to them. With
+// it the lists of most updates do not grow.
+pub(crate) fn room_of(size: Size) -> usize {
+    size.columns as usize + 12
 }

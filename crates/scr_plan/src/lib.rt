@@ -11,7 +11,7 @@ mod moving;
 mod painting;
 mod plain_repaint;
 mod plan_laws;
-mod planning;
+mod plans;
 mod priced_rows;
 mod reaching;
 mod runs;
@@ -34,6 +34,6 @@ pub use plan_laws::{
     joined_is_cheap, joined_shows, plain_shows, plan_is_cheap, plans_are_made,
     plans_are_remembered, up_to_date_laws,
 };
-pub use planning::{plan, plan_altered};
+pub use plans::{plan, plan_altered};
 pub use scratch_laws::{place_is_painted, scratch_bytes_show, scratch_is_bounded, scratch_shows};
 pub use scratch_texts::scratch_bytes;

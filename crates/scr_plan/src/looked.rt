@@ -1,17 +1,16 @@
-//! Which columns of the rows that are known an update looks at, and the runs of what differs there.
-ghost use Rattle.std.specs.Prelude.{ℕ, ◌≡◌, ◌<◌, ◌≤◌, IfOk, IfSome, None, false, length, not, slice_index_or, true};
+//! Which columns of the rows that are known an update looks at, which rows differ there, and their runs.
+ghost use Rattle.std.specs.Prelude.{ℕ, ◌≡◌, ◌<◌, ◌≤◌, [], IfSome, None, OnOk, false, true};
 ghost use Rattle.scr_virtual.specs.Ranges.{IsRange};
 ghost use Rattle.scr_memory.specs.Memories.{is_known, is_known_row};
 ghost use Rattle.scr_plan.specs.Code.Drafts.{HasChangesIn, KeepsRuns};
-ghost use Rattle.scr_plan.specs.Code.Planning.{AreNoneByOutside, AreSame, IsSameRow, range_by};
+ghost use Rattle.scr_plan.specs.Code.Planning.{AreChanges, AreNoneByOutside, IsChange, IsSameRow, range_by};
 ghost use Rattle.scr_plan.specs.Code.Scenes.{IsUpdate};
-ghost use Rattle.scr_plan.specs.Code.Settled.{HasShown};
-ghost use Rattle.scr_plan.specs.Repaints.{differing, differs, is_none_left};
 
 use crate::scenes::Update;
 use scr_cells::NoMemory;
-use scr_prices::Run;
+use scr_prices::{RowChange, Run};
 use scr_virtual::Virtual;
+use smallvec::SmallVec;
 
 // Which columns of a known row are looked at.
 #[derive(Clone, Copy)]
@@ -48,60 +47,107 @@ impl Looked {
     }
 }
 
-impl Update<'_> {
-    // Whether no columns are looked at.
-    pub(crate) fn looks_at_none(&self) -> bool
-        requires update { IsUpdate self.now }
-        requires known { is_known self.now.memory.now ≡ true }
-        ensures { result ≡ true → is_none_left (differing self.now.scene.profile.now self.now.wanted.now.picture self.now.memory.now) ≡ true }
-    {
-        let (first, end) = self.by.rows(self.wanted);
-        first >= end
-    }
+// The rows that differ, from the top: as many as a usual update has take no allocation.
+pub(crate) type Changes = SmallVec<RowChange, FEW_ROWS>;
 
-    // Finds the runs of what differs from what is remembered, and notes which rows have any.
-    // Returns whether one has.
-    pub(crate) fn find_changes(
-        &self,
-        runs: &mut Vec<Run>,
-        rows: &mut [bool],
-    ) -> Result<bool, NoMemory>
+// How many rows differ in a usual update.
+const FEW_ROWS: usize = 4;
+
+impl Update<'_> {
+    // Finds the rows that differ from what is remembered.
+    pub(crate) fn find_changes(&self, changes: &mut Changes) -> Result<(), NoMemory>
         requires update { IsUpdate self.now }
         requires known { is_known self.now.memory.now ≡ true }
-        requires rows { self.now.wanted.now.picture.rows ≤ length rows.old }
-        ensures rows { IfOk result (λ some. AreSame self.now.scene.profile.now self.now.wanted.now.picture self.now.memory.now rows.new self.now.wanted.now.picture.rows) }
-        ensures some { IfOk result (λ some. is_none_left (differing self.now.scene.profile.now self.now.wanted.now.picture self.now.memory.now) ≡ not some) }
-        ensures shown { IfOk result (λ some. HasShown self.now.scene.profile.now self.now.wanted.now.picture None self.now.memory.now.state.grid 0 runs.new.items) }
+        requires none { changes.old.items ≡ [] }
+        ensures { OnOk result (AreChanges self.now.scene.profile.now self.now.wanted.now.picture self.now.memory.now changes.new.items self.now.wanted.now.picture.rows) }
     {
         let _size = self.wanted.size();
         let (first, end) = self.by.rows(self.wanted);
-        let mut some = false;
         for row in first..end {
-            let differs = self.find_in_row(row, runs)?;
-            rows[row as usize] = differs;
-            some |= differs;
+            if let Some(change) = self.change_in(row) {
+                changes.push(change)?;
+            }
         }
-        Ok(some)
+        Ok(())
     }
 
-    // Finds the runs of a row's places that differ from what is known of them. Returns whether one
-    // does.
-    pub(crate) fn find_in_row(&self, row: u32, runs: &mut Vec<Run>) -> Result<bool, NoMemory>
+    // How a row differs from what is known of it, if it does.
+    fn change_in(&self, row: u32) -> Option<RowChange>
         requires update { IsUpdate self.now }
         requires row { row < self.now.wanted.now.picture.rows }
         requires known { is_known_row self.now.memory.now row ≡ true }
-        ensures kept { IfOk result (λ some. KeepsRuns runs.old.items runs.new.items) }
-        ensures has { IfOk result (λ some. HasChangesIn self.now.scene.profile.now self.now.wanted.now.picture self.now.memory.now runs.new.items row) }
-        ensures none { IfOk result (λ some. some ≡ false → IsSameRow self.now.scene.profile.now self.now.wanted.now.picture self.now.memory.now row) }
-        ensures one { IfOk result (λ some. some ≡ true → (c : ℕ) × (c < self.now.wanted.now.picture.columns) × (differs self.now.scene.profile.now self.now.wanted.now.picture self.now.memory.now (row, c) ≡ true)) }
+        ensures none { result ≡ None → IsSameRow self.now.scene.profile.now self.now.wanted.now.picture self.now.memory.now row }
+        ensures row { IfSome result (λ change. change.row ≡ row) }
+        ensures some { IfSome result (IsChange self.now.scene.profile.now self.now.wanted.now.picture self.now.memory.now) }
     {
         let _size = self.wanted.size();
-        match self.by.in_row(self.wanted, row) {
-            Some((from, last)) => {
-                let looks = Some(self.memory.looks(row));
-                self.scene.add_row(row, looks, (from, last + 1), runs)
+        let (from, last) = self.by.in_row(self.wanted, row)?;
+        let line = self.scene.line(row, Some(self.memory.looks(row)));
+        let end = last + 1;
+        let start = self.scene.unlike_from(&line, from, end);
+        if start >= end {
+            return None;
+        }
+        Some(RowChange { row, start, end })
+    }
+
+    // Finds the runs of the rows that differ, from the first of two rows up to the second.
+    pub(crate) fn find_in_rows(
+        &self,
+        changes: &[RowChange],
+        rows: (u32, u32),
+        runs: &mut Vec<Run>,
+    ) -> Result<(), NoMemory>
+        requires update { IsUpdate self.now }
+        requires known { is_known self.now.memory.now ≡ true }
+        requires changes { AreChanges self.now.scene.profile.now self.now.wanted.now.picture self.now.memory.now changes.now self.now.wanted.now.picture.rows }
+        ensures kept { OnOk result (KeepsRuns runs.old.items runs.new.items) }
+        ensures has { OnOk result ((r : ℕ) → rows.0 ≤ r → r < rows.1 → r < self.now.wanted.now.picture.rows → HasChangesIn self.now.scene.profile.now self.now.wanted.now.picture self.now.memory.now runs.new.items r) }
+    {
+        for change in changes {
+            if is_among(rows, change.row) {
+                self.find_in_row(change, runs)?;
             }
-            None => Ok(false),
+        }
+        Ok(())
+    }
+
+    // Finds the runs of a row that differs.
+    pub(crate) fn find_in_row(
+        &self,
+        change: &RowChange,
+        runs: &mut Vec<Run>,
+    ) -> Result<(), NoMemory>
+        requires update { IsUpdate self.now }
+        requires known { is_known_row self.now.memory.now change.now.row ≡ true }
+        requires change { IsChange self.now.scene.profile.now self.now.wanted.now.picture self.now.memory.now change.now }
+        ensures kept { OnOk result (KeepsRuns runs.old.items runs.new.items) }
+        ensures has { OnOk result (HasChangesIn self.now.scene.profile.now self.now.wanted.now.picture self.now.memory.now runs.new.items change.now.row) }
+    {
+        let _size = self.wanted.size();
+        let looks = Some(self.memory.looks(change.row));
+        self.scene
+            .add_row(change.row, looks, (change.start, change.end), runs)
+    }
+
+    // Finds the runs of a row that is known, if it differs.
+    pub(crate) fn find_if_changed(&self, row: u32, runs: &mut Vec<Run>) -> Result<(), NoMemory>
+        requires update { IsUpdate self.now }
+        requires row { row < self.now.wanted.now.picture.rows }
+        requires known { is_known_row self.now.memory.now row ≡ true }
+        ensures kept { OnOk result (KeepsRuns runs.old.items runs.new.items) }
+        ensures has { OnOk result (HasChangesIn self.now.scene.profile.now self.now.wanted.now.picture self.now.memory.now runs.new.items row) }
+    {
+        match self.change_in(row) {
+            Some(change) => self.find_in_row(&change, runs),
+            None => Ok(()),
         }
     }
+}
+
+// Whether a row is from the first of two rows up to the second.
+fn is_among(rows: (u32, u32), row: u32) -> bool
+    ensures { result ≡ false → rows.0 ≤ row → row < rows.1 → ⊥ }
+{
+    rows.0 <= row && row < rows.1
 }

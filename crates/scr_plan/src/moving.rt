@@ -1,77 +1,144 @@
 //! Moving what is on the screen already: a shift of rows, then slides of rows' characters, and the
 //! runs of what they leave to be painted.
-ghost use Rattle.std.specs.Prelude.{ℕ, ◌≡◌, ◌<◌, ◌≤◌, IfOk, IfSome, None, OnOk, Some, length, true};
-ghost use Rattle.scr_plan.specs.Code.Drafts.{KeepsRuns, in_runs};
-ghost use Rattle.scr_plan.specs.Code.Moves.{IsBegun, IsMoved, IsShift};
+ghost use Rattle.std.specs.Prelude.{ℕ, ◌≡◌, ◌<◌, ◌≤◌, IfOk, IfSome, None, OnOk, Some, true};
+ghost use Rattle.scr_plan.specs.Code.Drafts.{HasChangesIn, KeepsRuns, in_runs};
+ghost use Rattle.scr_plan.specs.Code.Moves.{IsBegun, IsMoved, IsShift, Sends, shown_at};
+ghost use Rattle.scr_plan.specs.Code.Planning.{AreChanges};
 ghost use Rattle.scr_plan.specs.Code.Scenes.{IsUpdate};
-ghost use Rattle.scr_plan.specs.Code.Settled.{HasShown, HasShownIn, KeepsStill, is_moved};
+ghost use Rattle.scr_plan.specs.Code.Settled.{HasShown, HasShownIn};
+ghost use Rattle.scr_memory.specs.Memories.{is_known};
 ghost use Rattle.scr_term.specs.Operations.Profiles.{abilities};
 ghost use Rattle.scr_term.specs.Operations.States.{IsShownPen};
 
 use crate::scenes::Update;
-use crate::shown::{is_moved, shown_row};
+use crate::shown::shown_row;
 use crate::strokes::Draft;
 use scr_cells::{Look, NoMemory, grid_laws};
-use scr_prices::{Run, Shift};
+use scr_prices::{Chooser, RowChange, Run, Shift, Worth, can_shift_some};
 use std::alloc::Global;
 
 impl Draft {
-    // Moves rows and characters that the screen shows elsewhere, if that is worth it. The runs are
-    // those of what differs from what is remembered, and become those of what differs then.
+    // Moves rows and characters that the screen shows elsewhere, if that is worth it. Returns the
+    // runs of what differs then.
     pub(crate) fn move_what_stays(
         &mut self,
         alloc: Global,
         update: &Update<'_>,
-        runs: &mut Vec<Run>,
-    ) -> Result<(), NoMemory>
+        changes: &[RowChange],
+    ) -> Result<Vec<Run>, NoMemory>
         requires update { IsUpdate update.now }
+        requires known { is_known update.now.memory.now ≡ true }
+        requires changes { AreChanges update.now.scene.profile.now update.now.wanted.now.picture update.now.memory.now changes.now update.now.wanted.now.picture.rows }
         requires pen { IsShownPen (abilities update.now.scene.profile.now) update.now.memory.now.state.pen }
         requires begun { IsBegun update.now.memory.now self.old }
-        requires shown { HasShown update.now.scene.profile.now update.now.scene.picture.now None update.now.memory.now.state.grid 0 runs.old.items }
-        ensures { OnOk result (IsMoved update.now.scene.profile.now update.now.scene.picture.now update.now.memory.now.state (in_runs runs.new.items) self.new) }
+        ensures { IfOk result (λ runs. IsMoved update.now.scene.profile.now update.now.scene.picture.now update.now.memory.now.state (in_runs runs.items) self.new) }
     {
         grid_laws::<Look>();
         let _profile = update.scene.profile.size();
         let _memory = update.memory.size();
-        let shift = self.shift_if_worth(alloc, update, runs)?;
-        update.find_after(alloc, shift, runs)?;
-        self.slide_rows(alloc, update, shift, runs)
+        let mut runs = Vec::new(alloc);
+        let shift = self.shift_if_worth(alloc, update, changes, &mut runs)?;
+        self.slide_rows(alloc, update, shift, &mut runs)?;
+        Ok(runs)
+    }
+
+    // Shifts rows, if that is worth it, and finds the runs of what differs then.
+    fn shift_if_worth(
+        &mut self,
+        alloc: Global,
+        update: &Update<'_>,
+        changes: &[RowChange],
+        runs: &mut Vec<Run>,
+    ) -> Result<Option<Shift>, NoMemory>
+        requires update { IsUpdate update.now }
+        requires known { is_known update.now.memory.now ≡ true }
+        requires changes { AreChanges update.now.scene.profile.now update.now.wanted.now.picture update.now.memory.now changes.now update.now.wanted.now.picture.rows }
+        ensures shift { IfOk result (λ shift. IfSome shift (IsShift update.now.scene.picture.now.rows)) }
+        ensures sent { IfOk result (λ shift. Sends update.now.scene.profile.now (shown_at shift) self.old self.new) }
+        ensures shown { IfOk result (λ shift. HasShown update.now.scene.profile.now update.now.scene.picture.now shift update.now.memory.now.state.grid 0 runs.new.items) }
+    {
+        grid_laws::<Look>();
+        let Some(row) = update.find_until_worth(changes, runs)? else {
+            return Ok(None);
+        };
+        let shift = self.shift(alloc, update, changes)?;
+        update.find_rest(shift, changes, row, runs)?;
+        Ok(shift)
     }
 }
 
 impl Update<'_> {
-    // Finds the runs of what differs after a shift, if there was one.
-    fn find_after(
+    // Finds the runs of rows that differ from the top, until they cost so much that a search for
+    // rows that moved is worth it. Returns the row after these; `None` where no search is, and the
+    // runs of all rows are found.
+    fn find_until_worth(
         &self,
-        alloc: Global,
+        changes: &[RowChange],
+        runs: &mut Vec<Run>,
+    ) -> Result<Option<u32>, NoMemory>
+        requires update { IsUpdate self.now }
+        requires known { is_known self.now.memory.now ≡ true }
+        requires changes { AreChanges self.now.scene.profile.now self.now.wanted.now.picture self.now.memory.now changes.now self.now.wanted.now.picture.rows }
+        ensures none { IfOk result (λ row. row ≡ None → HasShown self.now.scene.profile.now self.now.scene.picture.now None self.now.memory.now.state.grid 0 runs.new.items) }
+        ensures some { IfOk result (λ row. IfSome row (λ row. (r : ℕ) → r < row → HasChangesIn self.now.scene.profile.now self.now.wanted.now.picture self.now.memory.now runs.new.items r)) }
+    {
+        let size = self.wanted.size();
+        if changes.len() < 2 || !can_shift_some(self.scene.profile.prices()) {
+            self.find_in_rows(changes, (0, size.rows), runs)?;
+            return Ok(None);
+        }
+        let mut worth = Worth::of(Chooser::new(self.scene.profile, self.scene.picture));
+        for change in changes {
+            self.find_in_row(change, runs)?;
+            if worth.is_enough(runs) {
+                return Ok(Some(change.row + 1));
+            }
+        }
+        Ok(None)
+    }
+
+    // Finds the runs of the rest of the rows that differ, from a row on; all of them once rows were
+    // shifted.
+    fn find_rest(
+        &self,
         shift: Option<Shift>,
+        changes: &[RowChange],
+        row: u32,
         runs: &mut Vec<Run>,
     ) -> Result<(), NoMemory>
         requires update { IsUpdate self.now }
+        requires known { is_known self.now.memory.now ≡ true }
+        requires changes { AreChanges self.now.scene.profile.now self.now.wanted.now.picture self.now.memory.now changes.now self.now.wanted.now.picture.rows }
         requires shift { IfSome shift (IsShift self.now.scene.picture.now.rows) }
-        requires shown { HasShown self.now.scene.profile.now self.now.scene.picture.now None self.now.memory.now.state.grid 0 runs.old.items }
+        requires found { (r : ℕ) → r < row → HasChangesIn self.now.scene.profile.now self.now.wanted.now.picture self.now.memory.now runs.old.items r }
         ensures { OnOk result (HasShown self.now.scene.profile.now self.now.scene.picture.now shift self.now.memory.now.state.grid 0 runs.new.items) }
     {
-        if let Some(shift) = shift {
-            *runs = self.find_shifted(alloc, shift, runs)?;
+        match shift {
+            Some(shift) => {
+                runs.clear();
+                self.find_shifted(shift, changes, runs)
+            }
+            None => self.find_in_rows(changes, (row, self.wanted.size().rows), runs),
         }
-        Ok(())
     }
 
-    // The runs of what differs once rows were shifted: of the rows that stay those that were found,
-    // and those of what the others show then.
-    fn find_shifted(&self, alloc: Global, shift: Shift, found: &[Run]) -> Result<Vec<Run>, NoMemory>
+    // Finds the runs of what differs once rows were shifted.
+    fn find_shifted(
+        &self,
+        shift: Shift,
+        changes: &[RowChange],
+        runs: &mut Vec<Run>,
+    ) -> Result<(), NoMemory>
         requires update { IsUpdate self.now }
+        requires known { is_known self.now.memory.now ≡ true }
+        requires changes { AreChanges self.now.scene.profile.now self.now.wanted.now.picture self.now.memory.now changes.now self.now.wanted.now.picture.rows }
         requires shift { IsShift self.now.scene.picture.now.rows shift }
-        requires shown { HasShown self.now.scene.profile.now self.now.scene.picture.now None self.now.memory.now.state.grid 0 found.now }
-        ensures { IfOk result (λ runs. HasShown self.now.scene.profile.now self.now.scene.picture.now (Some shift) self.now.memory.now.state.grid 0 runs.items) }
+        ensures { OnOk result (HasShown self.now.scene.profile.now self.now.scene.picture.now (Some shift) self.now.memory.now.state.grid 0 runs.new.items) }
     {
-        let mut runs = Vec::with_capacity(alloc, found.len())?;
-        let above = runs_above(found, shift.top);
-        add_still(shift, &found[..above], &mut runs)?;
-        self.find_moved(shift, &mut runs)?;
-        add_still(shift, &found[above..], &mut runs)?;
-        Ok(runs)
+        let size = self.wanted.size();
+        self.find_in_rows(changes, (0, shift.top), runs)?;
+        self.find_moved(shift, runs)?;
+        self.find_in_rows(changes, (shift.end, size.rows), runs)
     }
 
     // Finds the runs of the rows that a shift changes, over what they show then.
@@ -97,32 +164,6 @@ impl Update<'_> {
     {
         let size = self.scene.picture.size();
         let looks = shown_row(self.memory, Some(shift), row);
-        let _ = self.scene.add_row(row, looks, (0, size.columns), runs)?;
-        Ok(())
+        self.scene.add_row(row, looks, (0, size.columns), runs)
     }
-}
-
-// The number of runs before the first one in a row or below it.
-fn runs_above(runs: &[Run], row: u32) -> usize
-    ensures { result ≤ length runs.now }
-{
-    for number in 0..runs.len() {
-        if runs[number].row >= row {
-            return number;
-        }
-    }
-    runs.len()
-}
-
-// Adds those of some runs that are in rows which a shift does not change.
-fn add_still(shift: Shift, found: &[Run], runs: &mut Vec<Run>) -> Result<(), NoMemory>
-    ensures kept { OnOk result (KeepsRuns runs.old.items runs.new.items) }
-    ensures still { OnOk result (KeepsStill shift found.now runs.new.items) }
-{
-    for run in found {
-        if !is_moved(Some(shift), run.row) {
-            runs.push(*run)?;
-        }
-    }
-    Ok(())
 }

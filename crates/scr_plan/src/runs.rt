@@ -1,6 +1,6 @@
 //! The runs of a row: places that one visit paints with one pen. A row is cut into them from the
 //! left, and each place that differs is in one.
-ghost use Rattle.std.specs.Prelude.{ℕ, ◌≡◌, ◌<◌, ◌≤◌, None, IfOk, IfSome, OnOk, false, length, option_map, true};
+ghost use Rattle.std.specs.Prelude.{ℕ, ◌≡◌, ◌<◌, ◌≤◌, None, IfSome, OnOk, false, length, option_map, true};
 ghost use Rattle.scr_plan.specs.Code.Drafts.{HasDiffering, HasMarks, KeepsRuns, is_in};
 ghost use Rattle.scr_plan.specs.Code.Painters.{row_differs};
 ghost use Rattle.scr_plan.specs.Code.Runs.{CutsOff, IsCut, IsSameRow, differs_at};
@@ -217,30 +217,25 @@ impl<'a> Scene<'a> {
 
 impl Scene<'_> {
     // Adds the runs of the places of a row that differ from what it shows, `before` or blanks, from
-    // the first of two columns up to the second. Returns whether there are any.
+    // the first of two columns up to the second.
     pub(crate) fn add_row(
         &self,
         row: u32,
         before: Option<&[Look]>,
         columns: (u32, u32),
         runs: &mut Vec<Run>,
-    ) -> Result<bool, NoMemory>
+    ) -> Result<(), NoMemory>
         requires row { row < self.now.picture.now.rows }
         requires width { IfSome before (λ looks. length looks.now ≡ self.now.picture.now.columns) }
         requires from { columns.0 ≤ columns.1 }
         requires end { columns.1 ≤ self.now.picture.now.columns }
-        ensures kept { IfOk result (λ some. KeepsRuns runs.old.items runs.new.items) }
-        ensures has { IfOk result (λ some. HasDiffering self.now.painter self.now.picture.now row (option_map (λ looks. looks.now) before.entry) columns.0 columns.1 runs.new.items) }
-        ensures none { IfOk result (λ some. some ≡ false → (c : ℕ) → columns.0 ≤ c → c < columns.1 → row_differs self.now.painter self.now.picture.now (option_map (λ looks. looks.now) before.entry) (row, c) ≡ false) }
-        ensures one { IfOk result (λ some. some ≡ true → (c : ℕ) × (columns.0 ≤ c) × (c < columns.1) × (row_differs self.now.painter self.now.picture.now (option_map (λ looks. looks.now) before.entry) (row, c) ≡ true)) }
+        ensures kept { OnOk result (KeepsRuns runs.old.items runs.new.items) }
+        ensures has { OnOk result (HasDiffering self.now.painter self.now.picture.now row (option_map (λ looks. looks.now) before.entry) columns.0 columns.1 runs.new.items) }
     {
         let line = self.line(row, before);
         match Cut::of(self, &line, columns) {
-            Some(cut) => {
-                cut.add_to(runs)?;
-                Ok(true)
-            }
-            None => Ok(false),
+            Some(cut) => cut.add_to(runs),
+            None => Ok(()),
         }
     }
 
@@ -251,7 +246,7 @@ impl Scene<'_> {
     {
         let size = self.picture.size();
         for row in first..size.rows {
-            let _ = self.add_row(row, None, (0, size.columns), runs)?;
+            self.add_row(row, None, (0, size.columns), runs)?;
         }
         Ok(())
     }

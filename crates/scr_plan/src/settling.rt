@@ -137,7 +137,7 @@ impl Scene<'_> {
         room.later.clear();
         room.later.extend_from_slice(&runs[part.after..])?;
         runs.truncate(part.begun);
-        let _ = self.add_row(part.row, Some(&room.looks), (0, size.columns), runs)?;
+        self.add_row(part.row, Some(&room.looks), (0, size.columns), runs)?;
         let next = runs.len();
         runs.extend_from_slice(&room.later)?;
         Ok(next)

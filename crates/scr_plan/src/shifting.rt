@@ -14,7 +14,7 @@ use crate::priced_rows::PricedRows;
 use crate::scenes::{Scene, Update};
 use crate::strokes::Draft;
 use scr_cells::{Look, NoMemory, grid_laws};
-use scr_prices::{Cursor, Run, Shift, can_shift_some, cheapest_motion, cheapest_shift};
+use scr_prices::{RowChange, Shift, cheapest_motion, cheapest_shift};
 use scr_term::{Op, Spot, run_laws};
 use std::alloc::Global;
 
@@ -132,46 +132,31 @@ impl Draft {
         }
     }
 
-    // Shifts rows, if that is worth it. The runs are all that differs.
-    pub(crate) fn shift_if_worth(
+    // Shifts rows, if one shift saves enough.
+    pub(crate) fn shift(
         &mut self,
         alloc: Global,
         update: &Update<'_>,
-        runs: &[Run],
+        changes: &[RowChange],
     ) -> Result<Option<Shift>, NoMemory>
         requires update { IsUpdate update.now }
         ensures shift { IfOk result (λ shift. IfSome shift (IsShift update.now.scene.picture.now.rows)) }
         ensures sent { IfOk result (λ shift. Sends update.now.scene.profile.now (shown_at shift) self.old self.new) }
     {
         grid_laws::<Look>();
-        let cursor = self.cursor();
-        let Some(shift) = shift_of(alloc, update, &cursor, runs)? else {
+        let scene = &update.scene;
+        let prices = PricedRows::new(scene, update.memory);
+        let shift = cheapest_shift(alloc, &prices, &self.cursor(), changes)?;
+        let Some(shift) = if_inside(shift, scene.picture.size().rows) else {
             return Ok(None);
         };
         let (deletion, insertion) = (Op::DeleteLines(shift.count), Op::InsertLines(shift.count));
-        if !update.scene.profile.has(deletion) || !update.scene.profile.has(insertion) {
+        if !scene.profile.has(deletion) || !scene.profile.has(insertion) {
             return Ok(None);
         }
-        self.shift_rows(&update.scene, shift)?;
+        self.shift_rows(scene, shift)?;
         Ok(Some(shift))
     }
-}
-
-// The shift that is worth sending, if the terminal can shift rows.
-fn shift_of(
-    alloc: Global,
-    update: &Update<'_>,
-    cursor: &Cursor,
-    runs: &[Run],
-) -> Result<Option<Shift>, NoMemory>
-    ensures { IfOk result (λ shift. IfSome shift (IsShift update.now.scene.picture.now.rows)) }
-{
-    if !can_shift_some(update.scene.profile.prices()) {
-        return Ok(None);
-    }
-    let prices = PricedRows::new(&update.scene, update.memory);
-    let shift = cheapest_shift(alloc, &prices, cursor, runs)?;
-    Ok(if_inside(shift, update.scene.picture.size().rows))
 }
 
 // A shift, if it is one on a screen of this many rows.

@@ -1,6 +1,6 @@
 //! The short plan: what differs is found as runs, many lines may be erased at once, and the runs
 //! are painted.
-ghost use Rattle.std.specs.Prelude.{◌≡◌, ◌<◌, ◌≤◌, ◌+◌, ◌*◌, ◌^◌, ◌-◌, ◌++◌, ◌∷◌, [], IfOk, None, OnOk, length, true};
+ghost use Rattle.std.specs.Prelude.{◌≡◌, ◌<◌, ◌≤◌, ◌+◌, ◌*◌, ◌^◌, ◌-◌, ◌++◌, ◌∷◌, [], IfOk, OnOk, length, true};
 ghost use Rattle.scr_term.specs.declared.operations.operation.Op.TheVariants.{Clear};
 ghost use Rattle.scr_term.specs.Operations.Profiles.{abilities};
 ghost use Rattle.scr_term.specs.Operations.States.{IsShownPen, blank_state};
@@ -8,32 +8,33 @@ ghost use Rattle.scr_plan.specs.Code.Drafts.{IsDone};
 ghost use Rattle.scr_plan.specs.Code.Moves.{IsChanged};
 ghost use Rattle.scr_plan.specs.Scratch.{resets};
 ghost use Rattle.scr_plan.specs.Code.Scenes.{IsScene, IsUpdate};
-ghost use Rattle.scr_plan.specs.Code.Settled.{HasShown};
+ghost use Rattle.scr_plan.specs.Code.Planning.{AreChanges};
+ghost use Rattle.scr_memory.specs.Memories.{is_known};
 
 use crate::runs::room_for;
 use crate::scenes::{Scene, Update};
 use crate::strokes::Draft;
 use scr_cells::{NoMemory, Pen, Size};
-use scr_prices::Run;
+use scr_prices::{RowChange, Run};
 use scr_term::{Op, Spot, blank_laws};
 use std::alloc::Global;
 
-// The short plan of what differs from what is remembered: these runs.
+// The short plan of what differs from what is remembered.
 #[inline(never)]
 pub(crate) fn short_changes(
     alloc: Global,
     update: &Update<'_>,
-    runs: Vec<Run>,
+    changes: &[RowChange],
 ) -> Result<Draft, NoMemory>
     requires update { IsUpdate update.now }
-    requires shown { HasShown update.now.scene.profile.now update.now.wanted.now.picture None update.now.memory.now.state.grid 0 runs.items }
+    requires known { is_known update.now.memory.now ≡ true }
+    requires changes { AreChanges update.now.scene.profile.now update.now.wanted.now.picture update.now.memory.now changes.now update.now.wanted.now.picture.rows }
     requires pen { IsShownPen (abilities update.now.scene.profile.now) update.now.memory.now.state.pen }
     ensures { IfOk result (IsChanged update.now.scene.profile.now update.now.wanted.now.picture update.now.memory.now.state) }
 {
     let _profile = update.scene.profile.size();
     let _memory = update.memory.size();
     let scene = &update.scene;
-    let mut runs = runs;
     let mut draft = Draft {
         ops: Vec::new(alloc),
         keeps: true,
@@ -41,7 +42,7 @@ pub(crate) fn short_changes(
         spot: update.memory.remembered_spot(),
         pen: update.memory.remembered_pen(),
     };
-    draft.move_what_stays(alloc, update, &mut runs)?;
+    let mut runs = draft.move_what_stays(alloc, update, changes)?;
     let moved = !draft.ops.is_empty();
     draft.make_room(&runs)?;
     draft.wipe_if_worth(scene, &mut runs)?;

@@ -3,7 +3,7 @@
 ghost use Rattle.std.specs.Prelude.{ℕ, ◌≡◌, ◌<◌, ◌≤◌, IfSome, OnOk, length, option_map, slice_index_or, true, false};
 ghost use Rattle.scr_cells.specs.LookViews.{LookView, blank};
 ghost use Rattle.scr_plan.specs.Code.Moves.{IsShift, IsSlide, shifted_at};
-ghost use Rattle.scr_plan.specs.Code.Settled.{IsShownRow, is_moved, look_from, slid_at};
+ghost use Rattle.scr_plan.specs.Code.Settled.{IsShownRow, look_from, slid_at};
 
 use scr_cells::{Look, NoMemory};
 use scr_memory::Memory;
@@ -32,16 +32,6 @@ fn moved_row(memory: &Memory, shift: Shift, row: u32) -> Option<&[Look]>
     match source(shift, row, memory.size().rows) {
         Some(source) => Some(memory.looks(source)),
         None => None,
-    }
-}
-
-// Whether a shift changes what a row shows.
-pub(crate) fn is_moved(shift: Option<Shift>, row: u32) -> bool
-    ensures { result ≡ is_moved shift row }
-{
-    match shift {
-        Some(shift) => shift.top <= row && row < shift.end,
-        None => false,
     }
 }
 

@@ -8,8 +8,8 @@ ghost use Rattle.scr_plan.specs.Repaints.{IsSizeOf};
 ghost use Rattle.scr_term.specs.Operations.Profiles.{abilities};
 ghost use Rattle.scr_plan.specs.Code.Scenes.{IsScene, IsUpdate};
 
+use crate::joined_changes::room_of;
 use crate::joining::price_of;
-use crate::planning::room_of;
 use crate::scenes::{Scene, Update};
 use crate::strokes::Draft;
 use scr_cells::{Look, NoMemory, Pen, grid_laws};
@@ -224,10 +224,9 @@ fn find_unsettled_in(update: &Update<'_>, row: u32, runs: &mut Vec<Run>) -> Resu
 {
     let size = update.wanted.size();
     let _memory = update.memory.size();
-    let _ = if update.memory.is_known_row(row) {
-        update.find_in_row(row, runs)?
+    if update.memory.is_known_row(row) {
+        update.find_if_changed(row, runs)
     } else {
-        update.scene.add_row(row, None, (0, size.columns), runs)?
-    };
-    Ok(())
+        update.scene.add_row(row, None, (0, size.columns), runs)
+    }
 }

@@ -7,6 +7,18 @@ use crate::slides::Slide;
 use crate::ways::Chooser;
 use scr_cells::{Look, NoMemory};
 
+/// A row that differs from what the terminal shows: in the first of these columns, and in none
+/// outside `start..end`.
+#[derive(Clone, Copy, Default)]
+pub struct RowChange {
+    /// The row, counted from 0 at the top.
+    pub row: u32,
+    /// The first column that differs.
+    pub start: u32,
+    /// The column after the last one that may differ.
+    pub end: u32,
+}
+
 /// What the rows of a screen show, and what it costs to make a row show what is wanted over
 /// whatever it shows. Rows and columns count from 0.
 pub trait RowPrices {
@@ -22,6 +34,9 @@ pub trait RowPrices {
     /// The price of a row over a row of looks: that of its runs as they stand, plus an easy motion
     /// for each.
     fn price_over(&self, row: u32, looks: &[Look]) -> u32;
+
+    /// The same of a row that differs, over what it shows.
+    fn price_of_change(&self, change: &RowChange) -> u32;
 
     /// The same over what a row of looks becomes by a slide of its characters, which is put
     /// together in `room`. Fails only when memory runs out.

@@ -2,7 +2,7 @@
 //! known. A choice affects nothing but the number of bytes of an update.
 
 use crate::blanks::is_blank;
-use crate::rows::RowPrices;
+use crate::rows::{RowChange, RowPrices, price_of_runs};
 use crate::runs::Run;
 use crate::ways::Chooser;
 use scr_cells::{Cell, Look, NoMemory};
@@ -11,6 +11,38 @@ use std::alloc::Global;
 
 // What the rows that differ have to cost, at least, before rows that moved are looked for.
 const WORTH_LOOKING: u32 = 40;
+
+/// What the first rows that differ cost: enough for a search for rows that moved, or not.
+#[derive(Drop)]
+pub struct Worth<'a> {
+    chooser: Chooser<'a>,
+    rows: u32,
+    runs: usize,
+    price: u32,
+}
+
+impl<'a> Worth<'a> {
+    /// Of no rows yet.
+    pub fn of(chooser: Chooser<'a>) -> Worth<'a> {
+        Worth {
+            chooser,
+            rows: 0,
+            runs: 0,
+            price: 0,
+        }
+    }
+
+    /// Adds one more row, whose runs stand behind those of the rows before. Returns whether there
+    /// are at least two rows, and all these cost enough.
+    pub fn is_enough(&mut self, runs: &[Run]) -> bool {
+        let begun = self.runs.min(runs.len());
+        let price = price_of_runs(&self.chooser, &runs[begun..]);
+        self.price = self.price.saturating_add(price);
+        self.runs = runs.len();
+        self.rows = self.rows.saturating_add(1);
+        self.rows > 1 && self.price >= WORTH_LOOKING
+    }
+}
 
 // The greatest number of rows that are looked for.
 const MOST_SAMPLES: u32 = 16;
@@ -41,25 +73,21 @@ pub(crate) struct Samples {
 }
 
 impl Samples {
-    // The rows that have these runs, which are by rows.
+    // The rows that differ.
     pub(crate) fn of(
         alloc: Global,
         chooser: &Chooser<'_>,
-        runs: &[Run],
+        changes: &[RowChange],
     ) -> Result<Samples, NoMemory> {
         let mut samples = Samples {
             found: Vec::new(alloc),
             first: FAR,
             last: 0,
         };
-        let mut row = None;
-        for run in runs {
-            if row != Some(run.row) {
-                row = Some(run.row);
-                samples.first = samples.first.min(run.row);
-                samples.last = run.row;
-                samples.add(chooser, run.row, run.start)?;
-            }
+        for change in changes {
+            samples.first = samples.first.min(change.row);
+            samples.last = change.row;
+            samples.add(chooser, change.row, change.start)?;
         }
         Ok(samples)
     }
@@ -147,23 +175,6 @@ fn byte_at(cells: &[Cell], column: u32) -> u8 {
         Some(cell) => cell.byte(),
         None => b' ',
     }
-}
-
-// Whether at least two rows have runs, and these cost enough.
-pub(crate) fn are_worth_looking(chooser: &Chooser<'_>, runs: &[Run]) -> bool {
-    let Some(first) = runs.first() else {
-        return false;
-    };
-    let mut several = false;
-    let mut price = 0u32;
-    for run in runs {
-        several = several || run.row != first.row;
-        price = price.saturating_add(chooser.price_as_it_stands(run));
-        if several && price >= WORTH_LOOKING {
-            return true;
-        }
-    }
-    false
 }
 
 // Whether looks are just what is wanted in a row; first the byte in one column is compared.

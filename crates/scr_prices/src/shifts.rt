@@ -4,9 +4,8 @@
 use crate::blanks::is_blank;
 use crate::counts::Counts;
 use crate::motions::cheapest_motion;
-use crate::rows::{RowPrices, price_of_runs, runs_end};
-use crate::runs::Run;
-use crate::samples::{Distance, Samples, are_worth_looking, can_shift, most_votes};
+use crate::rows::{RowChange, RowPrices};
+use crate::samples::{Distance, Samples, can_shift, most_votes};
 use crate::slides::are_blank;
 use crate::ways::Cursor;
 use scr_cells::NoMemory;
@@ -34,20 +33,16 @@ pub struct Shift {
     pub up: bool,
 }
 
-/// The shift that saves most, if one saves enough. The runs are all that differs, by rows. Fails
-/// only when memory runs out.
+/// The shift that saves most, if one saves enough. The changes are those of all rows that differ,
+/// from the top. Fails only when memory runs out.
 #[inline(never)]
 pub fn cheapest_shift<P: RowPrices>(
     alloc: Global,
     prices: &P,
     cursor: &Cursor,
-    runs: &[Run],
+    changes: &[RowChange],
 ) -> Result<Option<Shift>, NoMemory> {
-    let chooser = prices.chooser();
-    if !are_worth_looking(chooser, runs) {
-        return Ok(None);
-    }
-    let samples = Samples::of(alloc, chooser, runs)?;
+    let samples = Samples::of(alloc, prices.chooser(), changes)?;
     let Some(distance) = most_votes(prices, &samples) else {
         return Ok(None);
     };
@@ -59,7 +54,7 @@ pub fn cheapest_shift<P: RowPrices>(
         first: samples.first,
         last,
     };
-    let lines = Lines::of(alloc, &blocks, runs)?;
+    let lines = Lines::of(alloc, &blocks, changes)?;
     Ok(blocks.best(&lines))
 }
 
@@ -93,21 +88,21 @@ struct Line {
 struct Lines(Vec<Line>);
 
 impl Lines {
-    // Of the rows that blocks may lie in, which have these runs.
+    // Of the rows that blocks may lie in, of which these differ.
     fn of<P: RowPrices>(
         alloc: Global,
         blocks: &Blocks<'_, P>,
-        runs: &[Run],
+        changes: &[RowChange],
     ) -> Result<Lines, NoMemory> {
         let (first, end) = (blocks.first, blocks.last.saturating_add(1));
         let count = end.saturating_sub(first).saturating_add(1);
         let mut lines = Vec::with_capacity(alloc, count as usize)?;
         let mut saved = 0i64;
-        let mut begun = 0;
+        let mut next = 0usize;
         for row in first..end {
-            let after = runs_end(runs, begun, row);
-            let (gain, fresh) = blocks.savings(row, &runs[begun..after]);
-            begun = after;
+            let change = change_in(changes, next, row);
+            next = next.saturating_add(usize::from(change.is_some()));
+            let (gain, fresh) = blocks.savings(row, change);
             lines.push(Line { gain, saved })?;
             saved = saved.wrapping_add(fresh);
         }
@@ -138,6 +133,14 @@ impl Lines {
         } else {
             0
         }
+    }
+}
+
+// The change with a number, if it is that of a row.
+fn change_in(changes: &[RowChange], number: usize, row: u32) -> Option<&RowChange> {
+    match changes.get(number) {
+        Some(change) if change.row == row => Some(change),
+        _ => None,
     }
 }
 
@@ -217,9 +220,9 @@ impl<P: RowPrices> Blocks<'_, P> {
         best
     }
 
-    // What a row with these runs saves by being painted over the row that comes there, and over
+    // What a row that differs so, or not, saves by being painted over the row that comes there, and over
     // blanks. Where that row is just what is wanted, the places that differ are counted.
-    fn savings(&self, row: u32, runs: &[Run]) -> (i64, i64) {
+    fn savings(&self, row: u32, change: Option<&RowChange>) -> (i64, i64) {
         let prices = self.prices;
         let chooser = prices.chooser();
         let coming = match self.distance.source(row) {
@@ -231,7 +234,10 @@ impl<P: RowPrices> Blocks<'_, P> {
             let cost = i64::from(counts.price(chooser));
             return (cost, cost - i64::from(counts.price_of_filled(chooser)));
         }
-        let cost = i64::from(price_of_runs(chooser, runs));
+        let cost = match change {
+            Some(change) => i64::from(prices.price_of_change(change)),
+            None => 0,
+        };
         let blank = chooser.price_of_row(row);
         let over = if coming.is_empty() {
             0

@@ -51,10 +51,6 @@ abbrev pub is_moved : Option Shift → ℕ → Bool
 is_moved None row = false
 is_moved (Some shift) row = leb shift.top row && ltb row shift.end
 
--- runs of rows that a shift does not change are kept
-abbrev pub KeepsStill : Shift → List Run → List Run → Type 0
-KeepsStill shift old new = (place : ℕ × ℕ) → is_moved (Some shift) place.0 ≡ false → in_runs old place ≡ true → in_runs new place ≡ true
-
 -- what comes into a place from a row, or a blank
 abbrev pub look_from : Option ℕ → (ℕ → ℕ → LookView) → ℕ → LookView
 look_from None at c = blank

@@ -1,9 +1,10 @@
 use Rattle.std.proofs.Common.{filter}
 use Rattle.std.specs.List.{flat_map}
 use Rattle.scr_plan.specs.Code.Joinings.{Continues, joined_at}
+use Rattle.scr_plan.specs.Code.Planning.{row_after}
 use Rattle.scr_plan.specs.Repaints.{differs}
 use Rattle.scr_plan.specs.Scratch.{places}
 use Rattle.scr_plan.proofs.strokes.Draft.join_changes.Given as goal
 
-abbrev pub invariant-loop-row : goal.invariant-loop-row
-invariant-loop-row l = Continues l.update.scene.profile.now l.fn.self l.self (flat_map (joined_at l.update.scene.profile.now l.update.wanted.now.picture l.update.memory.now) (filter (differs l.update.scene.profile.now l.update.wanted.now.picture l.update.memory.now) (places l.row l.update.wanted.now.picture.columns)))
+abbrev pub invariant-loop-change : goal.invariant-loop-change
+invariant-loop-change l = Continues l.update.scene.profile.now l.fn.self l.self (flat_map (joined_at l.update.scene.profile.now l.update.wanted.now.picture l.update.memory.now) (filter (differs l.update.scene.profile.now l.update.wanted.now.picture l.update.memory.now) (places (row_after l.changes l.change-index) l.update.wanted.now.picture.columns)))
