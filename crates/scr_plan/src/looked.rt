@@ -127,7 +127,7 @@ impl Update<'_> {
         let _size = self.wanted.size();
         let looks = Some(self.memory.looks(change.row));
         self.scene
-            .add_row(change.row, looks, (change.start, change.end), runs)
+            .add_from(change.row, looks, (change.start, change.end), runs)
     }
 
     // Finds the runs of a row that is known, if it differs.

@@ -40,29 +40,41 @@ impl<'a> Cut<'a> {
         ensures line { IfSome result (λ cut. cut.line ≡ line.now) }
         ensures last { IfSome result (λ cut. cut.last ≡ columns.1) }
         ensures begun { IfSome result (λ cut. (c : ℕ) → columns.0 ≤ c → c < cut.column → differs_at cut c ≡ false) }
-        ensures differs { IfSome result (λ cut. differs_at cut cut.column ≡ true) }
-        ensures first { IfSome result (λ cut. columns.0 ≤ cut.column) }
-        ensures some { IfSome result (λ cut. cut.column < columns.1) }
     {
         let (from, last) = columns;
         let column = scene.unlike_from(line, from, last);
         if column >= last {
             return None;
         }
+        Some(Cut::begun(scene, line, (column, last)))
+    }
+
+    // The cut of a row's columns from the first of two, which differs, up to the second.
+    fn begun(scene: &Scene<'a>, line: &Line<'a>, columns: (u32, u32)) -> Cut<'a>
+        requires line { IsLine scene.now.picture.now line.now }
+        requires some { columns.0 < columns.1 }
+        requires end { columns.1 ≤ scene.now.picture.now.columns }
+        ensures cut { IsCut result }
+        ensures scene { result.scene ≡ scene.now }
+        ensures line { result.line ≡ line.now }
+        ensures column { result.column ≡ columns.0 }
+        ensures last { result.last ≡ columns.1 }
+    {
+        let (column, last) = columns;
         let end = scene.erased_rest(line, column, last).unwrap_or(last);
         let stretch = if column < end {
             scene.stretch_end(line, column, end)
         } else {
             column
         };
-        Some(Cut {
+        Cut {
             scene: *scene,
             line: *line,
             column,
             stretch,
             end,
             last,
-        })
+        }
     }
 
     // Cuts off the next run, if there is one.
@@ -237,6 +249,25 @@ impl Scene<'_> {
             Some(cut) => cut.add_to(runs),
             None => Ok(()),
         }
+    }
+
+    // Adds these runs where the first of the columns differs.
+    pub(crate) fn add_from(
+        &self,
+        row: u32,
+        before: Option<&[Look]>,
+        columns: (u32, u32),
+        runs: &mut Vec<Run>,
+    ) -> Result<(), NoMemory>
+        requires row { row < self.now.picture.now.rows }
+        requires width { IfSome before (λ looks. length looks.now ≡ self.now.picture.now.columns) }
+        requires some { columns.0 < columns.1 }
+        requires end { columns.1 ≤ self.now.picture.now.columns }
+        ensures kept { OnOk result (KeepsRuns runs.old.items runs.new.items) }
+        ensures has { OnOk result (HasDiffering self.now.painter self.now.picture.now row (option_map (λ looks. looks.now) before.entry) columns.0 columns.1 runs.new.items) }
+    {
+        let line = self.line(row, before);
+        Cut::begun(self, &line, columns).add_to(runs)
     }
 
     // Adds the runs of all places in the rows from `first` on that are not seen blank.

@@ -16,14 +16,12 @@ pub(crate) struct Counts {
 impl Counts {
     // Of the looks before and after.
     pub(crate) fn of(before: &[Look], after: &[Look]) -> Counts {
-        let count = before.len().min(after.len());
-        let (before, after) = (&before[..count], &after[..count]);
         let mut differing = 0u32;
         let mut blanked = 0u32;
         let mut filled = 0u32;
-        for place in 0..count {
-            let is_other = before[place] != after[place];
-            let is_filled = after[place] != Look::blank();
+        for (old, new) in before.iter().zip(after.iter()) {
+            let is_other = *old != *new;
+            let is_filled = *new != Look::blank();
             differing = differing.wrapping_add(u32::from(is_other));
             blanked = blanked.wrapping_add(u32::from(is_other & !is_filled));
             filled = filled.wrapping_add(u32::from(is_filled));
