@@ -1,11 +1,15 @@
 -- The keys of an entry, one after another.
-use Rattle.std.proofs.Common.{◌≡◌, ◌∙◌, ℕ, ◌+◌, ◌-◌, ◌<◌, ◌≤◌, max, Bool, true, false, ◌||◌, refl, ap, sym, arith, zero, suc, length, get_or, List, [], ◌∷◌, ◌++◌, Some, None, is_some, nat_lt, if◌then◌else◌}
+use Rattle.std.proofs.Common.{◌≡◌, ◌∙◌, ℕ, ◌+◌, ◌-◌, ◌<◌, ◌≤◌, ◌⊎◌, inl, inr, max, Bool, true, false, ◌||◌, refl, ap, sym, arith, zero, suc, length, take, get_or, List, [], ◌∷◌, ◌++◌, Some, None, is_some, nat_lt, if◌then◌else◌}
+use Rattle.std.proofs.lemmas.Bool.{cases_lt}
+use Rattle.std.proofs.lemmas.List.{length-take-le, take-take, take_all}
+use Rattle.std.proofs.lemmas.Slice.Eq.{bytes_eq-Decides}
 use Rattle.ti_caps.specs.Description.{Description}
 use Rattle.ti_caps.specs.Table.{or_else}
-use Rattle.scr_keys.specs.Code.Maps.{IsTable, length_from, longest_from}
+use Rattle.scr_keys.specs.Code.Maps.{IsClosed, IsTable, MapsView, length_from, longest_from}
 use Rattle.scr_keys.specs.Keys.{Keys, goes_on, is_beginning, key_of, longest_text}
 use Rattle.scr_keys.specs.Tables.{keys_below, keys_of, text_of_key, too_long, too_long_below, with_key}
 use Rattle.scr_keys.proofs.FirstLaws.{longest_from_more}
+use Rattle.scr_keys.proofs.MapLaws.{beginning_is, whole_beginning}
 
 -- ---- one key more
 
@@ -26,16 +30,46 @@ longest_more : (keys : Keys) (text : List ℕ) (slot : ℕ) → longest_text (ke
 longest_more [] text slot = omega arith
 longest_more (k ∷ keys) text slot = omega (arith, longest_more keys text slot)
 
-pub table_more : (keys new old_beginnings beginnings : Keys) (most slot : ℕ) (text : List ℕ) → length text ≤ 64 → new ≡ keys ++ (text, slot) ∷ []
-    → ((bytes : List ℕ) → is_some (key_of beginnings bytes) ≡ (is_some (key_of old_beginnings bytes) || is_beginning bytes text)) → (longest : ℕ) → longest ≡ max most (length text)
-    → (old_firsts firsts : List ℕ) → IsTable keys old_beginnings most old_firsts → ((byte : ℕ) → byte < 256 → get_or firsts byte 0 ≡ max (get_or old_firsts byte 0) (length_from byte text))
-    → IsTable new beginnings longest firsts
-table_more keys new old_beginnings beginnings most slot text few now begins longest all old_firsts firsts is raised = record {
-  by_beginning = λ bytes. begins bytes ∙ ap (λ b. b || is_beginning bytes text) (is.by_beginning bytes) ∙ sym (goes_on_more keys text slot bytes) ∙ ap (λ k. goes_on k bytes) (sym now);
-  longest = all ∙ ap (λ n. max n (length text)) is.longest ∙ sym (longest_more keys text slot) ∙ ap longest_text (sym now);
+-- with the text at its end, and all of its beginnings
+pub table_more : (old new : MapsView) (text : List ℕ) (slot : ℕ) → length text ≤ 64 → new.keys ≡ old.keys ++ (text, slot) ∷ []
+    → ((bytes : List ℕ) → is_some (key_of new.beginnings bytes) ≡ (is_some (key_of old.beginnings bytes) || is_beginning bytes text)) → new.longest ≡ max old.longest (length text)
+    → ((byte : ℕ) → byte < 256 → get_or new.firsts byte 0 ≡ max (get_or old.firsts byte 0) (length_from byte text)) → IsTable old → IsTable new
+table_more old new text slot few now begins all raised is = record {
+  by_beginning = λ bytes. begins bytes ∙ ap (λ b. b || is_beginning bytes text) (is.by_beginning bytes) ∙ sym (goes_on_more old.keys text slot bytes) ∙ ap (λ k. goes_on k bytes) (sym now);
+  longest = all ∙ ap (λ n. max n (length text)) is.longest ∙ sym (longest_more old.keys text slot) ∙ ap longest_text (sym now);
   few = omega (arith, all, is.few, few);
-  by_first = λ byte inside. raised byte inside ∙ ap (λ n. max n (length_from byte text)) (is.by_first byte inside) ∙ sym (longest_from_more byte keys text slot) ∙ ap (longest_from byte) (sym now);
+  by_first = λ byte inside. raised byte inside ∙ ap (λ n. max n (length_from byte text)) (is.by_first byte inside) ∙ sym (longest_from_more byte old.keys text slot) ∙ ap (longest_from byte) (sym now);
 }
+
+-- ---- beginnings of what goes on go on
+
+begins_shorter : (bytes text : List ℕ) (n : ℕ) → is_beginning bytes text ≡ true → is_beginning (take n bytes) text ≡ true
+begins_shorter bytes text n is = by (cases_lt n (length bytes))
+  where
+    whole : (length bytes < length text) × (bytes ≡ take (length bytes) text)
+    whole = beginning_is bytes text is
+
+    by : (n < length bytes) ⊎ (length bytes ≤ n) → is_beginning (take n bytes) text ≡ true
+    by (inl less) =
+        let all : length (take n bytes) ≡ n = length-take-le n bytes (omega (arith, less)) in
+        let same : take n bytes ≡ take (length (take n bytes)) text = ap (take n) (whole.1) ∙ take-take n (length bytes) text (omega (arith, less)) ∙ ap (λ k. take k text) (sym all) in
+        whole_beginning (take n bytes) text (omega (arith, all, less, whole.0)) ∙ (bytes_eq-Decides (take n bytes) (take (length (take n bytes)) text)).1 same
+    by (inr more) = ap (λ t. is_beginning t text) (take_all n bytes more) ∙ is
+
+goes_shorter : (keys : Keys) (bytes : List ℕ) (n : ℕ) → goes_on keys bytes ≡ true → goes_on keys (take n bytes) ≡ true
+goes_shorter [] bytes n on = on
+goes_shorter (k ∷ keys) bytes n on = by (is_beginning bytes k.0) refl on (goes_shorter keys bytes n)
+  where
+    or_true : (b : Bool) → (b || true) ≡ true
+    or_true true = refl
+    or_true false = refl
+
+    by : (b : Bool) → is_beginning bytes k.0 ≡ b → (b || goes_on keys bytes) ≡ true → (goes_on keys bytes ≡ true → goes_on keys (take n bytes) ≡ true) → (is_beginning (take n bytes) k.0 || goes_on keys (take n bytes)) ≡ true
+    by true here all further = ap (λ b. b || goes_on keys (take n bytes)) (begins_shorter bytes k.0 n here)
+    by false here rest further = ap (λ b. is_beginning (take n bytes) k.0 || b) (further rest) ∙ or_true (is_beginning (take n bytes) k.0)
+
+pub closed : (maps : MapsView) → IsTable maps → IsClosed maps.beginnings
+closed maps is = λ text n there. is.by_beginning (take n text) ∙ goes_shorter maps.keys text n (sym (is.by_beginning text) ∙ there)
 
 -- ---- all positions
 

@@ -1,14 +1,11 @@
 //! The keys of a terminal, and how they are found.
 ghost use Rattle.std.specs.Prelude.{◌≡◌, ◌+◌, ◌<◌, ◌≤◌, ◌≢◌, ◌==◌, [], ◌∷◌, ◌++◌, None, IfErr, IfOk, IfSome, IsErrOf, OnErr, length, nat_lt};
 ghost use Rattle.scr_keys.specs.Tables.{AreKeysOf, AreRefused, HasKeyAt, HasKeys, is_key, is_new, text_of_key, with_key};
-ghost use Rattle.scr_keys.specs.Code.Maps.{longest_like};
 ghost use Rattle.scr_keys.specs.Keys.{first_of, goes_on, key_of, longest, longest_text};
 
 use crate::faults::KeyFault;
-use crate::firsts::{add_text, no_texts};
 use crate::keys::Key;
-use crate::maps::{add_with_beginnings, position_of};
-use indexmap::IndexMap;
+use crate::maps::{KeyMaps, position_of};
 use out_of_memory::NoMemory;
 use std::alloc::Global;
 use std::marker::Model;
@@ -18,24 +15,18 @@ use ti_param::{padding_is_removed, padding_is_removed_once, strip_padding};
 /// The keys of a terminal, each with the text that it sends.
 #[derive(Drop)]
 pub struct KeyTable {
-    texts: IndexMap<Vec<u8>, u16>,
-    // The beginnings of these texts.
-    beginnings: IndexMap<Vec<u8>, u16>,
-    // How many bytes the longest text has.
-    longest: usize,
-    // For each byte, how many bytes the longest text has that begins with it.
-    firsts: [u8; 256],
+    maps: KeyMaps,
 }
 
 impl Model for KeyTable {
     ghost use Rattle.std.specs.Prelude.{ℕ, List};
-    ghost use Rattle.scr_keys.specs.Code.Maps.{IsTable, seen};
+    ghost use Rattle.scr_keys.specs.Code.Maps.{IsTable};
 
     ghost Value = { List (List ℕ × ℕ) };
 
-    ghost view = { λ t. seen (λ k. k.items) t.texts.entries };
+    ghost view = { λ t. t.maps.keys };
 
-    ghost invariant = { λ t. IsTable (seen (λ k. k.items) t.texts.entries) (seen (λ k. k.items) t.beginnings.entries) t.longest t.firsts };
+    ghost invariant = { λ t. IsTable t.maps };
 }
 
 impl KeyTable {
@@ -49,84 +40,30 @@ impl KeyTable {
         ensures err { IfErr result (AreRefused entry.now) }
         ensures memory { IsErrOf result KeyFault.NoMemory → HasKeys entry.now }
     {
-        let mut table = KeyTable::empty(alloc);
+        let mut maps = KeyMaps::empty(alloc);
         for slot in 0..MOST_TEXTS as u16 {
             let text = text_of_key(alloc, entry, Slot(slot))?;
             if is_too_long(&text) {
                 return Err(KeyFault::KeyTooLong(Slot(slot)));
             }
-            table = table.with_key(alloc, &text, slot)?;
+            maps.add_key(alloc, text, slot)?;
         }
-        Ok(table)
-    }
-
-    // No keys.
-    fn empty(alloc: Global) -> KeyTable
-        ensures { result ≡ [] }
-    {
-        KeyTable {
-            texts: IndexMap::new(alloc),
-            beginnings: IndexMap::new(alloc),
-            longest: 0,
-            firsts: no_texts(),
-        }
-    }
-
-    // Adds a key, unless it sends nothing, or what a key before it sends.
-    fn with_key(self, alloc: Global, text: &[u8], slot: u16) -> Result<KeyTable, NoMemory>
-        requires { length text.now ≤ 64 }
-        ensures table { IfOk result (λ table. table ≡ with_key self text.now slot) }
-        ensures memory { OnErr result (text.now ≢ []) }
-    {
-        if !self.is_new(text) {
-            return Ok(self);
-        }
-        let KeyTable {
-            mut texts,
-            mut beginnings,
-            longest,
-            mut firsts,
-        } = self;
-        add_with_beginnings(alloc, &mut texts, &mut beginnings, text, slot)?;
-        add_text(&mut firsts, text);
-        Ok(KeyTable {
-            texts,
-            beginnings,
-            longest: longest.max(text.len()),
-            firsts,
-        })
-    }
-
-    // Whether a text makes a new key: it is not empty, and no other key sends the same.
-    fn is_new(&self, text: &[u8]) -> bool
-        ensures { result ≡ is_new self.now text.now }
-    {
-        !text.is_empty() && self.key(text).is_none()
+        Ok(KeyTable { maps })
     }
 
     // The key that sends exactly this text.
     fn key(&self, text: &[u8]) -> Option<u16>
         ensures { result ≡ key_of self.now text.now }
     {
-        position_of(&self.texts, text)
+        position_of(&self.maps.texts, text)
     }
 
     /// Whether any key begins with these bytes and has more.
     pub(crate) fn goes_on(&self, bytes: &[u8]) -> bool
         ensures { result ≡ goes_on self.now bytes.now }
     {
-        bytes.len() < self.longest_like(bytes) && position_of(&self.beginnings, bytes).is_some()
-    }
-
-    // How many bytes the longest text has that begins with the same byte as these; if there are none, the longest of
-    // all. With this, most bytes are decided without a look-up in a map.
-    fn longest_like(&self, bytes: &[u8]) -> usize
-        ensures { result ≡ longest_like self.now bytes.now }
-    {
-        match bytes.first() {
-            Some(byte) => usize::from(self.firsts[usize::from(*byte)]),
-            None => self.longest,
-        }
+        bytes.len() < self.maps.longest_like(bytes)
+            && position_of(&self.maps.beginnings, bytes).is_some()
     }
 
     /// How many bytes the longest text of a key has, at most 64.
@@ -134,7 +71,7 @@ impl KeyTable {
         ensures value { result ≡ longest_text self.now }
         ensures few { result ≤ 64 }
     {
-        self.longest
+        self.maps.longest
     }
 
     /// The first key of some bytes, and how many of them it has.
@@ -156,7 +93,7 @@ impl KeyTable {
         ensures some { IfSome result (λ key. 1 ≤ key.1) }
         ensures few { IfSome result (λ key. key.1 ≤ length bytes.now) }
     {
-        let mut len = bytes.len().min(self.longest_like(bytes));
+        let mut len = bytes.len().min(self.maps.longest_like(bytes));
         while len > 0 {
             if let Some(slot) = self.key(&bytes[..len]) {
                 return Some((slot, len));

@@ -9,12 +9,13 @@ returns-then-is_too_long-clause-err c =
 
 pub loop-slot-preserved : goal.loop-slot-preserved
 loop-slot-preserved c = record {
-  keys = keys_more c.args.entry.now c.loop-slot.table _ c.loop-slot.slot c.deref-in-loop-slot.result.now c.loop-slot.invariant.keys (c.deref-in-loop-slot.ensures.value ∙ c.in_ok-text.ensures.text) c.in_ok-table.ensures.table;
+  keys = keys_more c.args.entry.now c.loop-slot.maps.keys _ c.loop-slot.slot c.in_ok-text.text.items c.loop-slot.invariant.keys c.in_ok-text.ensures.text c.in_ok-add_key.ensures.keys;
+  table = c.in_ok-add_key.ensures.table;
   few = none_long c.args.entry.now c.loop-slot.slot c.loop-slot.invariant.few (sym (ap (λ t. nat_lt 64 (length t)) (c.deref.ensures.value ∙ c.in_ok-text.ensures.text)) ∙ sym c.is_too_long.ensures ∙ c.if-is_too_long.false);
 }
 
 pub returns-clause-ok : goal.returns-clause-ok
 returns-clause-ok c = record {
-  all = keys_in_all c.args.entry.now c.loop-slot.table c.loop-slot.slot c.loop-slot.invariant.keys (omega (arith, c.loop-slot-test.false, c.loop-slot.auto.slot-end));
+  all = keys_in_all c.args.entry.now c.loop-slot.maps.keys c.loop-slot.slot c.loop-slot.invariant.keys (omega (arith, c.loop-slot-test.false, c.loop-slot.auto.slot-end));
   few = none_in_all c.args.entry.now c.loop-slot.slot c.loop-slot.invariant.few (omega (arith, c.loop-slot-test.false, c.loop-slot.auto.slot-end));
 }
