@@ -10,6 +10,9 @@ use out_of_memory::NoMemory;
 use std::alloc::Global;
 use std::marker::Model;
 
+// How many keys there is room for from the first on.
+const ROOM: usize = 100;
+
 /// What the keys of a terminal are found by.
 #[derive(Drop)]
 pub(crate) struct KeyMaps {
@@ -61,6 +64,7 @@ impl KeyMaps {
         if !self.is_new(&text) {
             return Ok(());
         }
+        self.make_room()?;
         put_beginnings(alloc, &mut self.beginnings, &text, slot)?;
         add_text(&mut self.firsts, &text);
         self.longest = self.longest.max(text.len());
@@ -77,6 +81,17 @@ impl KeyMaps {
             Some(byte) => usize::from(self.firsts[usize::from(*byte)]),
             None => self.longest,
         }
+    }
+
+    // Makes room before the first key, for as many as most terminals have: maps that grow are made anew each time.
+    fn make_room(&mut self) -> Result<(), NoMemory>
+        ensures { self.new ≡ self.old }
+    {
+        if self.texts.is_empty() {
+            self.texts.reserve(ROOM)?;
+            self.beginnings.reserve(ROOM)?;
+        }
+        Ok(())
     }
 
     // Whether a text makes a new key: it is not empty, and no other key sends the same.

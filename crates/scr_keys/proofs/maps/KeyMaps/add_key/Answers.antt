@@ -7,7 +7,7 @@ use Rattle.scr_keys.proofs.TableLaws.{closed, table_more}
 use Rattle.scr_keys.proofs.maps.KeyMaps.add_key.Goals as goal
 
 pub put_beginnings-requires : goal.put_beginnings-requires
-put_beginnings-requires c = closed (the_view c.self.inside) (subst IsTable (sym c.self.view_is) c.requires.table)
+put_beginnings-requires c = closed (the_view c.self.inside) (subst IsTable (sym c.make_room.ensures ∙ sym c.self.view_is) c.requires.table)
 
 pub returns-clause-table : goal.returns-clause-table
 returns-clause-table c =
@@ -18,5 +18,5 @@ returns-clause-table c =
     (λ bytes. c.in_ok-put_beginnings.ensures bytes ∙ ap (λ t. is_some (key_of old.beginnings bytes) || is_beginning bytes t) c.deref-2.ensures.value)
     (omega (arith, c.max-self-inside.ensures, c.len.ensures, c.deref-3.ensures.len, ap length c.deref-3.ensures.value))
     (λ byte inside. c.add_text.ensures byte inside ∙ ap (λ t. max (get_or old.firsts byte 0) (length_from byte t)) c.deref-3.ensures.value)
-    (subst IsTable (sym c.self.view_is) c.requires.table))
+    (subst IsTable (sym c.make_room.ensures ∙ sym c.self.view_is) c.requires.table))
     c.add.ensures
