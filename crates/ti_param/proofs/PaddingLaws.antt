@@ -1,6 +1,8 @@
 -- What is measured as a padding is one, and the other way round; a text without its padding is one text.
 use Rattle.std.proofs.Common.{◌≡◌, ◌≢◌, ◌⊎◌, ℕ, suc, ◌+◌, ◌<◌, Bool, true, false, cond, ◌&&◌, ◌||◌, List, [], ◌∷◌, ◌++◌, length, drop, inl, inr, refl, ap, sym, ◌∙◌, subst, append_assoc, arith}
 use Rattle.std.specs.Prelude.{◌==◌, nat_lt, slice_index}
+use Rattle.std.specs.List.{list_any}
+use Rattle.std.proofs.lemmas.Bool.Decides.{nat_tests}
 use Rattle.std.proofs.lemmas.List.{drop-drop, drop_at, drop_all, drop_more, get_or-drop, length-append}
 use Rattle.std.proofs.lemmas.Bool.{and_from, and_parts, cond_both, cond-true, eqb-true, eq-eqb, false≢true, lt-ltb, ltb-true, or_cases}
 use Rattle.ti_param.specs.Digits.{is_digit, all_digits}
@@ -311,3 +313,22 @@ stripped_once text one other ended ended = refl
 stripped_once text one other ended (left_out {padding = padding} {rest = rest} e p s) = absurd (padding_is_some padding p (sym (padding_measured [] padding rest e p)))
 stripped_once text one other (kept {byte = byte} without s) (kept other_without t) = ap (λ l. byte ∷ l) (stripped_once _ _ _ s t)
 stripped_once text one other (kept without s) (left_out {padding = padding} {rest = rest} e p t) = absurd (without padding rest e p)
+
+-- a text without `$` has no padding
+pub without_mark : (text : List ℕ) → list_any (λ byte. byte == 36) text ≡ false → Stripped text text
+without_mark [] unmarked = ended
+without_mark (byte ∷ text) unmarked = by (byte == 36) refl unmarked (without_mark text)
+  where
+    never : true ≡ false → ⊥
+    never e = (cc)
+
+    begins : (byte : ℕ) (text padding rest : List ℕ) → byte ∷ text ≡ padding ++ rest → IsPadding padding → byte ≡ 36
+    begins byte text padding rest whole p = let all : byte ∷ text ≡ (36 ∷ 60 ∷ (p.digits ++ (p.tenth ++ (p.marks ++ 62 ∷ [])))) ++ rest = whole ∙ ap (λ l. l ++ rest) p.whole in head all
+      where
+        head : {a b : ℕ} {xs ys : List ℕ} → a ∷ xs ≡ b ∷ ys → a ≡ b
+        head e = (cc)
+
+    by : (b : Bool) → (byte == 36) ≡ b → (b || list_any (λ y. y == 36) text) ≡ false → (list_any (λ y. y == 36) text ≡ false → Stripped text text) → Stripped (byte ∷ text) (byte ∷ text)
+    by true here rest further = absurd (never rest)
+    by false other rest further =
+        kept (λ padding after whole p. let mark : byte ≡ 36 = begins byte text padding after whole p in let same : (byte == 36) ≡ true = grind (arith, nat_tests) in never (sym same ∙ other)) (further rest)

@@ -15,6 +15,9 @@ use std::alloc::{AllocError, Global};
 pub fn strip_padding(alloc: Global, bytes: &[u8]) -> Result<Vec<u8>, NoMemory>
     ensures { IfOk result (λ text. Stripped bytes.now text.items) }
 {
+    if !bytes.contains(&b'$') {
+        return Ok(Vec::from_slice(alloc, bytes)?);
+    }
     one_pass(alloc, bytes).map_err(|_| NoMemory)
 }
 
