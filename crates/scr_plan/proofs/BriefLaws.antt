@@ -1,5 +1,5 @@
 -- Painting the places of a row, each after its neighbour where both have one pen, leads where painting them one by one leads.
-use Rattle.std.proofs.Common.{◌≡◌, ℕ, ◌+◌, ◌<◌, ◌≤◌, Bool, true, false, All, refl, sym, ◌∙◌, ap, arith, nat_lt, List, [], ◌∷◌, ◌++◌, filter, Option, Some, None, option_and_then, zero, suc, if◌then◌else◌}
+use Rattle.std.proofs.Common.{◌≡◌, ℕ, ◌+◌, ◌<◌, ◌≤◌, Bool, true, false, All, refl, sym, ◌∙◌, ap, arith, nat_lt, List, [], ◌∷◌, ◌++◌, filter, Some, zero, suc, if◌then◌else◌}
 use Rattle.std.specs.List.{flat_map}
 use Rattle.std.proofs.lemmas.Bool.Decides.{nat_tests}
 use Rattle.std.proofs.lemmas.List.{append-nil}
@@ -7,7 +7,7 @@ use Rattle.std.proofs.lemmas.List.Elements.{recursion_from_All}
 use Rattle.scr_cells.specs.CellViews.{IsCell, blank_cell}
 use Rattle.scr_cells.specs.Grids.{grid_at, grid_with}
 use Rattle.scr_cells.specs.LookViews.{LookView}
-use Rattle.scr_cells.specs.PenViews.{PenView, pen_eq}
+use Rattle.scr_cells.specs.PenViews.{pen_eq}
 use Rattle.scr_cells.specs.PictureViews.{PictureView, IsPicture}
 use Rattle.scr_term.specs.declared.operations.operation.Op.{Op}
 use Rattle.scr_term.specs.declared.operations.operation.Op.TheVariants.{Put}
@@ -32,15 +32,7 @@ use Rattle.scr_plan.specs.Scratch.{PlaceIsPainted, goes, look_at, paints_place, 
 pub then_same : RunLaws → (profile : ProfileView) (old other : TerminalState) (xs ys more others : List Op) → runs profile old xs ≡ runs profile other ys
     → ((next : TerminalState) → runs profile other ys ≡ Some next → runs profile next more ≡ runs profile next others)
     → runs profile old (xs ++ more) ≡ runs profile other (ys ++ others)
-then_same laws profile old other xs ys more others first second =
-    laws.after profile old xs more
-    ∙ ap (option_and_then (λ next. runs profile next more)) first
-    ∙ by (runs profile other ys) refl
-    ∙ sym (laws.after profile other ys others)
-  where
-    by : (next : Option TerminalState) → runs profile other ys ≡ next → option_and_then (λ n. runs profile n more) next ≡ option_and_then (λ n. runs profile n others) next
-    by None e = refl
-    by (Some next) e = second next e
+then_same laws profile old other xs ys more others first second = grind (arith, nat_tests)
 
 -- ---- one place after its neighbour
 
@@ -83,15 +75,7 @@ behind_last laws place_law profile p picture k d r m high wide differs old new s
   where
     same : (new : TerminalState) {grid : List (List LookView)} {spot : Spot} → Some new ≡ Some (record { grid = grid; spot = spot; pen = (look_at profile picture (r, m)).pen })
         → (new.spot ≡ spot) × (new.pen ≡ (look_at profile picture (r, m)).pen)
-    same new {grid} {spot} e = (ap (spot_of spot) e, ap pen_of e)
-      where
-        spot_of : Spot → Option TerminalState → Spot
-        spot_of other None = other
-        spot_of other (Some state) = state.spot
-
-        pen_of : Option TerminalState → PenView
-        pen_of None = new.pen
-        pen_of (Some state) = state.pen
+    same new {grid} {spot} e = grind (arith, nat_tests)
 
 -- one place in either way
 one_same : RunLaws → ProfilesHave → PlaceIsPainted → (profile : ProfileView) → IsProfile profile → (picture : PictureView) → IsPicture picture → (memory : MemoryView)
@@ -136,6 +120,4 @@ row_same laws have place_law profile p picture k memory r (suc n) high wide old 
     by : (b : Bool) → (between : TerminalState) → runs profile between (brief_place profile picture memory (r, n)) ≡ runs profile between (paints_place profile picture (r, n))
         → runs profile between (flat_map (brief_place profile picture memory) (if b then (r, n) ∷ [] else []))
         ≡ runs profile between (flat_map (paints_place profile picture) (if b then (r, n) ∷ [] else []))
-    by false between same = refl
-    by true between same =
-        ap (runs profile between) (append-nil (brief_place profile picture memory (r, n))) ∙ same ∙ sym (ap (runs profile between) (append-nil (paints_place profile picture (r, n))))
+    by b between same = grind (arith, nat_tests)

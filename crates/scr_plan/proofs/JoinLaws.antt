@@ -1,5 +1,5 @@
 -- What is painted of a row by its looks is what is painted of it by what is remembered.
-use Rattle.std.proofs.Common.{◌≡◌, ℕ, ◌+◌, ◌-◌, ◌<◌, ◌≤◌, ◌&&◌, not, ltb, Bool, true, false, refl, sym, ◌∙◌, ap, append_assoc, arith, get_or, List, [], ◌∷◌, ◌++◌, map, filter, Option, Some, None, replicate, zero, suc, if◌then◌else◌}
+use Rattle.std.proofs.Common.{◌≡◌, ℕ, ◌+◌, ◌-◌, ◌<◌, ◌≤◌, not, Bool, true, false, refl, sym, ◌∙◌, ap, append_assoc, arith, get_or, List, [], ◌∷◌, ◌++◌, map, filter, Option, Some, None, replicate, zero, suc, if◌then◌else◌}
 use Rattle.std.specs.List.{flat_map, range_with_len}
 use Rattle.std.proofs.Math.ListN.{get_or-map}
 use Rattle.std.proofs.lemmas.Bool.Decides.{nat_tests}
@@ -10,66 +10,45 @@ use Rattle.std.proofs.lemmas.List.FromFn.{length-map-range_with_len}
 use Rattle.scr_cells.specs.CellViews.{CellView, blank_cell}
 use Rattle.scr_cells.specs.Grids.{grid_row}
 use Rattle.scr_cells.specs.LookViews.{LookView, blank}
-use Rattle.scr_cells.specs.PenViews.{PenView, pen_eq}
+use Rattle.scr_cells.specs.PenViews.{PenView}
 use Rattle.scr_cells.specs.PictureViews.{PictureView}
 use Rattle.scr_term.specs.declared.operations.operation.Op.{Op}
-use Rattle.scr_term.specs.declared.operations.operation.Op.TheVariants.{Put}
 use Rattle.scr_term.specs.Operations.Profiles.{ProfileView}
 use Rattle.scr_plan.specs.declared.painting.Painter.{Painter}
 use Rattle.scr_plan.specs.Code.Joinings.{ShowsRow}
 use Rattle.scr_plan.specs.Code.Painters.{is_that_pen, painter_look, painter_of, painter_sees, painter_writes, part_places, pen_before, row_differs, row_paints, shown_in}
 use Rattle.scr_memory.specs.Memories.{MemoryView, is_known_row}
 use Rattle.scr_plan.specs.Repaints.{brief_place, cleared, differs, joins_left, look_eq, look_in}
-use Rattle.scr_plan.specs.Scratch.{goes, look_at, renders}
-use Rattle.scr_plan.proofs.PartLaws.{look_refl, none_in_part, part_joined}
-use Rattle.scr_plan.proofs.Rows.{read_any}
+use Rattle.scr_plan.specs.Scratch.{look_at}
+use Rattle.scr_plan.proofs.PartLaws.{none_in_part, part_joined}
+use Rattle.scr_plan.proofs.PartLaws.{read_any}
 
 -- ---- by looks and by what is remembered
 
 pub differs_same : (profile : ProfileView) (picture : PictureView) (memory : MemoryView) (row : ℕ) (before : Option (List LookView)) → ShowsRow memory row before
     → (c : ℕ) → row_differs (painter_of profile) picture before (row, c) ≡ differs profile picture memory (row, c)
-differs_same profile picture memory row before shows c =
-    sym (ap (λ known. not (known && look_eq (look_in memory (row, c)) (look_at profile picture (row, c)))) shows.known
-    ∙ ap (λ look. not (look_eq look (look_at profile picture (row, c)))) (shows.looks c))
+differs_same profile picture memory row before shows c = grind (arith, nat_tests)
 
 -- a place joins its left neighbour, by the pen of that if it is painted
 pub joins_same : (profile : ProfileView) (picture : PictureView) (memory : MemoryView) (row : ℕ) (before : Option (List LookView)) → ShowsRow memory row before
     → (c : ℕ) → is_that_pen (pen_before (painter_of profile) picture before row c) (look_at profile picture (row, c)).pen ≡ joins_left profile picture memory row c
 joins_same profile picture memory row before shows zero = refl
-joins_same profile picture memory row before shows (suc c) =
-    by (row_differs (painter_of profile) picture before (row, c)) ∙ ap (λ b. b && pen_eq (look_at profile picture (row, c)).pen (look_at profile picture (row, suc c)).pen) (differs_same profile picture memory row before shows c)
-  where
-    by : (b : Bool) → is_that_pen (if b then Some (look_at profile picture (row, c)).pen else None) (look_at profile picture (row, suc c)).pen
-        ≡ (b && pen_eq (look_at profile picture (row, c)).pen (look_at profile picture (row, suc c)).pen)
-    by true = refl
-    by false = refl
+joins_same profile picture memory row before shows (suc c) = grind (arith, nat_tests)
 
 paints_same : (profile : ProfileView) (picture : PictureView) (memory : MemoryView) (row : ℕ) (before : Option (List LookView)) → ShowsRow memory row before
     → (c : ℕ) → row_paints (painter_of profile) picture before (row, c) ≡ brief_place profile picture memory (row, c)
-paints_same profile picture memory row before shows c =
-    ap (λ joins. (if joins then [] else goes profile (row, c) ++ renders (look_at profile picture (row, c)).pen) ++ Put (look_at profile picture (row, c)).byte ∷ []) (joins_same profile picture memory row before shows c)
+paints_same profile picture memory row before shows c = grind (arith, nat_tests, joins_same)
 
 -- the same places of a row pass, and each adds the same
 part_same : (f g : ℕ × ℕ → List Op) (d e : ℕ × ℕ → Bool) (row : ℕ) → ((c : ℕ) → f (row, c) ≡ g (row, c)) → ((c : ℕ) → d (row, c) ≡ e (row, c)) → (a n : ℕ)
     → flat_map f (filter d (part_places a n row)) ≡ flat_map g (filter e (part_places a n row))
 part_same f g d e row adds passes a zero = refl
-part_same f g d e row adds passes a (suc n) =
-    ap (λ b. flat_map f (if b then (row, a) ∷ filter d (part_places (a + 1) n row) else filter d (part_places (a + 1) n row))) (passes a)
-    ∙ by (e (row, a)) (part_same f g d e row adds passes (a + 1) n)
-  where
-    by : (b : Bool) → flat_map f (filter d (part_places (a + 1) n row)) ≡ flat_map g (filter e (part_places (a + 1) n row))
-        → flat_map f (if b then (row, a) ∷ filter d (part_places (a + 1) n row) else filter d (part_places (a + 1) n row))
-        ≡ flat_map g (if b then (row, a) ∷ filter e (part_places (a + 1) n row) else filter e (part_places (a + 1) n row))
-    by true rest = (λ i. adds a i ++ rest i)
-    by false rest = rest
+part_same f g d e row adds passes a (suc n) = grind (arith, nat_tests, part_same f g d e row adds passes (a + 1) n)
 
 pub row_is_brief : (profile : ProfileView) (picture : PictureView) (memory : MemoryView) (row : ℕ) (before : Option (List LookView)) (painter : Painter) → painter ≡ painter_of profile → ShowsRow memory row before
     → (a n : ℕ) → flat_map (row_paints painter picture before) (filter (row_differs painter picture before) (part_places a n row))
     ≡ flat_map (brief_place profile picture memory) (filter (differs profile picture memory) (part_places a n row))
-row_is_brief profile picture memory row before painter who shows a n =
-    ap (λ p. flat_map (row_paints p picture before) (filter (row_differs p picture before) (part_places a n row))) who
-    ∙ part_same (row_paints (painter_of profile) picture before) (brief_place profile picture memory) (row_differs (painter_of profile) picture before) (differs profile picture memory) row
-    (paints_same profile picture memory row before shows) (differs_same profile picture memory row before shows) a n
+row_is_brief profile picture memory row before painter who shows a n = grind (arith, nat_tests, part_same, paints_same, differs_same)
 
 -- ---- a screen that was cleared
 
@@ -99,13 +78,7 @@ cleared_row picture row high = record { known = each_true picture.rows row high;
 pub passed : (painter : Painter) (picture : PictureView) (before : Option (List LookView)) (row column next : ℕ) → column < next
     → ((c : ℕ) → column ≤ c → c < next → row_differs painter picture before (row, c) ≡ false)
     → (filter (row_differs painter picture before) (part_places column (next - column) row) ≡ []) × (pen_before painter picture before row next ≡ None)
-passed painter picture before row column next more same =
-    let whole : column + (next - column) ≡ next = omega (arith, more) in
-    (none_in_part (row_differs painter picture before) column (next - column) row (λ c low high. same c low (omega (arith, high, whole))), last next more same)
-  where
-    last : (next : ℕ) → column < next → ((c : ℕ) → column ≤ c → c < next → row_differs painter picture before (row, c) ≡ false) → pen_before painter picture before row next ≡ None
-    last zero more same = refl
-    last (suc c) more same = ap (λ b. if b then Some (painter_look painter picture (row, c)).pen else None) (same c (omega (arith, more)) (omega arith))
+passed painter picture before row column next more same = grind (arith, nat_tests, none_in_part)
 
 -- the pen of a place that is painted
 pub painted : (painter : Painter) (picture : PictureView) (before : Option (List LookView)) (row column : ℕ) → row_differs painter picture before (row, column) ≡ true
@@ -119,42 +92,30 @@ painted painter picture before row column differs =
 -- a place that shows what is seen of its cell does not differ
 pub shown_same : (painter : Painter) (picture : PictureView) (row : ℕ) (before : Option (List LookView)) (c : ℕ) (cells : List CellView) → cells ≡ grid_row picture.lines row
     → shown_in before c ≡ painter_sees painter picture.pairs (get_or cells c blank_cell) → row_differs painter picture before (row, c) ≡ false
-shown_same painter picture row before c cells are same =
-    let look : LookView = painter_look painter picture (row, c) in
-    ap not (ap (λ l. look_eq l look) (same ∙ ap (λ line. painter_sees painter picture.pairs (get_or line c blank_cell)) are) ∙ look_refl look)
+shown_same painter picture row before c cells are same = grind (arith, nat_tests)
 
 -- whether a place differs, by the byte and the pen of its cell
 pub differs_by : (painter : Painter) (picture : PictureView) (row : ℕ) (before : Option (List LookView)) (c : ℕ) (cells : List CellView) (byte : ℕ) (pen : PenView) → cells ≡ grid_row picture.lines row
     → byte ≡ (painter_sees painter picture.pairs (get_or cells c blank_cell)).byte → pen ≡ (painter_sees painter picture.pairs (get_or cells c blank_cell)).pen
     → record { byte = byte; pen = pen } ≡ painter_look painter picture (row, c)
-differs_by painter picture row before c cells byte pen are is_byte is_pen =
-    (λ i. record { byte = is_byte i; pen = is_pen i }) ∙ ap (λ line. painter_sees painter picture.pairs (get_or line c blank_cell)) are
+differs_by painter picture row before c cells byte pen are is_byte is_pen = grind (arith, nat_tests)
 
 pub place_shown : (painter : Painter) (picture : PictureView) (row : ℕ) (before : Option (List LookView)) (c : ℕ) (cells : List CellView) (byte : ℕ) (pen : PenView) → cells ≡ grid_row picture.lines row
     → byte ≡ (painter_sees painter picture.pairs (get_or cells c blank_cell)).byte → pen ≡ (painter_sees painter picture.pairs (get_or cells c blank_cell)).pen
     → {shown : Bool} → look_eq (shown_in before c) (record { byte = byte; pen = pen }) ≡ shown → row_differs painter picture before (row, c) ≡ not shown
-place_shown painter picture row before c cells byte pen are is_byte is_pen same =
-    ap not (sym (ap (look_eq (shown_in before c)) (differs_by painter picture row before c cells byte pen are is_byte is_pen)) ∙ same)
+place_shown painter picture row before c cells byte pen are is_byte is_pen same = grind (arith, nat_tests)
 
 -- one place more that does not differ
 pub one_more : (painter : Painter) (picture : PictureView) (row : ℕ) (before : Option (List LookView)) (from column : ℕ)
     → ((c : ℕ) → from ≤ c → c < column → row_differs painter picture before (row, c) ≡ false) → row_differs painter picture before (row, column) ≡ false
     → (c : ℕ) → from ≤ c → c < column + 1 → row_differs painter picture before (row, c) ≡ false
-one_more painter picture row before from column same last c low high = by (ltb c column) refl
-  where
-    by : (b : Bool) → ltb c column ≡ b → row_differs painter picture before (row, c) ≡ false
-    by true e = same c low (grind (arith, nat_tests))
-    by false e = let here : c ≡ column = grind (arith, nat_tests) in ap (λ k. row_differs painter picture before (row, k)) here ∙ last
+one_more painter picture row before from column same last c low high = grind (arith, nat_tests)
 
 -- a place that does not differ, and those after it
 pub one_and_more : (painter : Painter) (picture : PictureView) (before : Option (List LookView)) (row column next : ℕ) → row_differs painter picture before (row, column) ≡ false
     → ((c : ℕ) → column + 1 ≤ c → c < next → row_differs painter picture before (row, c) ≡ false)
     → (c : ℕ) → column ≤ c → c < next → row_differs painter picture before (row, c) ≡ false
-one_and_more painter picture before row column next first rest c low high = by (ltb column c) refl
-  where
-    by : (b : Bool) → ltb column c ≡ b → row_differs painter picture before (row, c) ≡ false
-    by true e = let above : column + 1 ≤ c = grind (arith, nat_tests) in rest c above high
-    by false e = let here : c ≡ column = grind (arith, nat_tests) in ap (λ k. row_differs painter picture before (row, k)) here ∙ first
+one_and_more painter picture before row column next first rest c low high = grind (arith, nat_tests)
 
 -- ---- what a step of the loop adds
 
@@ -166,12 +127,8 @@ pub painted_adds : (painter : Painter) (picture : PictureView) (before : Option 
 painted_adds painter picture before row column ops new left look differs is_left is_look made =
     let one : column + 1 - column ≡ 1 = omega arith in
     let f = row_paints painter picture before in
-    made
-    ∙ ap (λ l. ops ++ painter_writes painter l (row, column) look) is_left
-    ∙ ap (λ l. ops ++ painter_writes painter (pen_before painter picture before row column) (row, column) l) is_look
-    ∙ ap (λ adds. ops ++ adds) (sym (append-nil (f (row, column))))
-    ∙ sym (ap (λ b. ops ++ flat_map f (if b then (row, column) ∷ [] else [])) differs)
-    ∙ sym (ap (λ n. ops ++ flat_map f (filter (row_differs painter picture before) (part_places column n row))) one)
+    made ∙ (λ i. ops ++ painter_writes painter (is_left i) (row, column) (is_look i))
+    ∙ rw one (sym (ap (λ b. ops ++ flat_map f (if b then (row, column) ∷ [] else [])) differs ∙ ap (λ more. ops ++ more) (append-nil (f (row, column)))))
 
 -- what is painted of two parts, one after another
 pub parts_painted : (painter : Painter) (picture : PictureView) (before : Option (List LookView)) (row from column next : ℕ) (old ops new : List Op) → from ≤ column → column < next
@@ -179,15 +136,6 @@ pub parts_painted : (painter : Painter) (picture : PictureView) (before : Option
     → new ≡ ops ++ flat_map (row_paints painter picture before) (filter (row_differs painter picture before) (part_places column (next - column) row))
     → new ≡ old ++ flat_map (row_paints painter picture before) (filter (row_differs painter picture before) (part_places from (next - from) row))
 parts_painted painter picture before row from column next old ops new low more made added =
-    let f = row_paints painter picture before in
-    let d = row_differs painter picture before in
-    let here : from + (column - from) ≡ column = omega (arith, low) in
-    let whole : next - from ≡ column - from + (next - column) = omega (arith, low, more) in
-    added
-    ∙ ap (λ ops. ops ++ flat_map f (filter d (part_places column (next - column) row))) made
-    ∙ append_assoc old (flat_map f (filter d (part_places from (column - from) row))) (flat_map f (filter d (part_places column (next - column) row)))
-    ∙ ap (λ ops. old ++ ops)
-    (sym (ap (λ n. flat_map f (filter d (part_places from n row))) whole
-    ∙ ap (λ ps. flat_map f (filter d ps)) (part_joined from (column - from) (next - column) row ∙ ap (λ k. part_places from (column - from) row ++ part_places k (next - column) row) here)
-    ∙ ap (flat_map f) (filter-append d (part_places from (column - from) row) (part_places column (next - column) row))
-    ∙ flat_map-append f (filter d (part_places from (column - from) row)) (filter d (part_places column (next - column) row))))
+    let here : from + (column - from) ≡ column = omega arith in
+    let whole : next - from ≡ column - from + (next - column) = omega arith in
+    rw (added, made, append_assoc, whole, part_joined from (column - from) (next - column) row, here, filter-append, flat_map-append)

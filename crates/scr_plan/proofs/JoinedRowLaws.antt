@@ -1,11 +1,11 @@
 -- The joined repaint, row by row.
-use Rattle.std.proofs.Common.{◌≡◌, ℕ, ◌+◌, ◌-◌, ◌<◌, ◌≤◌, ◌⊎◌, inl, inr, not, Bool, true, false, All, refl, sym, ◌∙◌, ap, subst, arith, append_assoc, get_or, nat_lt, Result, Ok, Err, OnOk, List, [], ◌∷◌, ◌++◌, filter, Option, Some, None, zero, suc, if◌then◌else◌, IfOk}
+use Rattle.std.proofs.Common.{◌≡◌, ℕ, ◌+◌, ◌-◌, ◌<◌, ◌≤◌, ◌⊎◌, inl, inr, not, Bool, true, false, refl, sym, ◌∙◌, ap, subst, arith, append_assoc, get_or, nat_lt, Result, OnOk, List, [], ◌∷◌, ◌++◌, filter, Option, Some, None, zero, suc, if◌then◌else◌}
 use Rattle.std.specs.List.{flat_map}
 use Rattle.std.proofs.lemmas.Bool.Decides.{nat_tests}
 use Rattle.std.proofs.lemmas.List.{append-nil}
 use Rattle.std.proofs.lemmas.List.Elements.{recursion_from_All, filter-append}
-use Rattle.scr_cells.specs.CellViews.{CellView, IsCell, IsCharacter, blank_cell}
-use Rattle.scr_cells.specs.Grids.{grid_at, grid_row}
+use Rattle.scr_cells.specs.CellViews.{CellView, IsCharacter, blank_cell}
+use Rattle.scr_cells.specs.Grids.{grid_row}
 use Rattle.scr_cells.specs.LookViews.{LookView, blank}
 use Rattle.scr_cells.specs.PenViews.{PenView, pen_eq}
 use Rattle.scr_cells.specs.PictureViews.{PictureView, IsPicture}
@@ -18,13 +18,11 @@ use Rattle.scr_term.specs.Operations.Laws.{ProfilesHave, RunLaws}
 use Rattle.scr_term.specs.Operations.Profiles.{ProfileView, IsProfile}
 use Rattle.scr_term.specs.Operations.States.{spot_after}
 use Rattle.scr_plan.proofs.JoinLaws.{differs_same, joins_same, known_row, painted, painted_adds, parts_painted, passed, row_is_brief}
-use Rattle.scr_plan.proofs.JoinedLaws.{IsErasable, erasable, row_erased, row_unerased}
+use Rattle.scr_plan.proofs.JoinedLaws.{IsErasable, erasable, joined_assoc, row_erased, row_unerased}
 use Rattle.scr_plan.proofs.JoiningLaws.{counts_less, goes_on, nothing_goes, put_goes}
-use Rattle.scr_plan.proofs.PartLaws.{none_in_part, pen_refl, outside_above, outside_below, part_joined, row_in_part, row_known, row_more, row_same, rows_same, same_place}
+use Rattle.scr_plan.proofs.PartLaws.{is_among, none_in_places, none_in_part, pen_refl, part_joined, row_in_part, row_known, row_more, same_place}
 use Rattle.scr_plan.proofs.PlaceLaws.{cell_of}
-use Rattle.scr_plan.proofs.PlacesLaws.{is_among}
 use Rattle.scr_plan.proofs.PlainLaws.{among_differing}
-use Rattle.scr_plan.specs.Code.Planning.{IsSameRow}
 use Rattle.scr_plan.specs.Code.Joinings.{Continues, CountsAtMost, ShowsRow, counted_up, joined_at}
 use Rattle.scr_plan.specs.Code.Painters.{is_that_pen, painter_begins, painter_look, painter_of, painter_writes, part_places, pen_before, row_differs, row_paints}
 use Rattle.scr_memory.specs.Memories.{MemoryView, is_known}
@@ -37,31 +35,26 @@ use Rattle.scr_plan.specs.declared.painting.Painter.{Painter}
 
 pub unless_there : (profile : ProfileView) (painter : Painter) (old : Draft) (left : Option PenView) (place : ℕ × ℕ) (pen : PenView) → is_that_pen left pen ≡ true
     → Continues profile old old (if is_that_pen left pen then [] else painter_begins painter place pen)
-unless_there profile painter old left place pen that =
-    subst (Continues profile old old) (sym (ap (λ b. if b then [] else painter_begins painter place pen) that)) (nothing_goes profile old)
+unless_there profile painter old left place pen that = grind (arith, nat_tests, nothing_goes)
 
 -- ---- a place of a row
 
 -- the byte of a cell is a character
 pub byte_is : (picture : PictureView) → IsPicture picture → (row column : ℕ) (cells : List CellView) (byte : ℕ) → cells ≡ grid_row picture.lines row → byte ≡ (get_or cells column blank_cell).byte → IsCharacter byte
-byte_is picture k row column cells byte are is =
-    let cell : IsCell (grid_at blank_cell picture.lines row column) = cell_of picture.lines row column (recursion_from_All (All IsCell) picture.lines k.cells) in
-    subst IsCharacter (sym (is ∙ ap (λ line. (get_or line column blank_cell).byte) are)) cell.character
+byte_is picture k row column cells byte are is = grind (arith, nat_tests, cell_of, recursion_from_All)
 
 -- places that are passed add nothing
 pub passed_goes : (profile : ProfileView) (painter : Painter) (picture : PictureView) (before : Option (List LookView)) (row column next : ℕ) (old : Draft) → column < next
     → ((c : ℕ) → column ≤ c → c < next → row_differs painter picture before (row, c) ≡ false)
     → Continues profile old old (flat_map (row_paints painter picture before) (filter (row_differs painter picture before) (part_places column (next - column) row)))
-passed_goes profile painter picture before row column next old more same =
-    subst (Continues profile old old) (sym (ap (flat_map (row_paints painter picture before)) (passed painter picture before row column next more same).0)) (nothing_goes profile old)
+passed_goes profile painter picture before row column next old more same = grind (arith, nat_tests, passed, nothing_goes)
 
 -- a place that is painted
 pub painted_goes : (profile : ProfileView) (painter : Painter) (picture : PictureView) (before : Option (List LookView)) (row column : ℕ) (old new : Draft) (left : Option PenView) (look : LookView)
     → row_differs painter picture before (row, column) ≡ true → left ≡ pen_before painter picture before row column → look ≡ painter_look painter picture (row, column)
     → Continues profile old new (painter_writes painter left (row, column) look)
     → Continues profile old new (flat_map (row_paints painter picture before) (filter (row_differs painter picture before) (part_places column (column + 1 - column) row)))
-painted_goes profile painter picture before row column old new left look differs is_left is_look goes =
-    subst (Continues profile old new) (painted_adds painter picture before row column [] (painter_writes painter left (row, column) look) left look differs is_left is_look refl) goes
+painted_goes profile painter picture before row column old new left look differs is_left is_look goes = grind (arith, nat_tests, painted_adds)
 
 -- ---- a part of a row
 
@@ -87,13 +80,10 @@ part_whole d columns r from end order wide outside =
 
 part_before : (d : ℕ × ℕ → Bool) (r from e : ℕ) → from ≤ e → ((c : ℕ) → c < from → d (r, c) ≡ false) → filter d (part_places 0 e r) ≡ filter d (part_places from (e - from) r)
 part_before d r from e order none =
-    let whole : e ≡ from + (e - from) = omega (arith, order) in
+    let whole : e ≡ from + (e - from) = omega arith in
+    let first : filter d (part_places 0 from r) ≡ [] = none_in_part d 0 from r (λ c low high. none c (omega arith)) in
     let here : 0 + from ≡ from = omega arith in
-    ap (λ n. filter d (part_places 0 n r)) whole
-    ∙ ap (filter d) (part_joined 0 from (e - from) r)
-    ∙ filter-append d (part_places 0 from r) (part_places (0 + from) (e - from) r)
-    ∙ ap (λ ps. ps ++ filter d (part_places (0 + from) (e - from) r)) (none_in_part d 0 from r (λ c low high. none c (omega (arith, high))))
-    ∙ ap (λ k. filter d (part_places k (e - from) r)) here
+    ap (λ n. filter d (part_places 0 n r)) whole ∙ rw (part_joined 0 from (e - from) r, filter-append, first, here)
 
 pub row_whole : (profile : ProfileView) (picture : PictureView) (row : ℕ) (before : Option (List LookView)) (painter : Painter) → painter ≡ painter_of profile → (from end : ℕ) → from ≤ end → end ≤ picture.columns
     → ((c : ℕ) → (c < from) ⊎ (end ≤ c) → c < picture.columns → row_differs painter picture before (row, c) ≡ false)
@@ -142,8 +132,7 @@ pub rows_go : (profile : ProfileView) (picture : PictureView) (memory : MemoryVi
     → Continues profile old mid (flat_map (joined_at profile picture memory) (filter (differs profile picture memory) (places row columns)))
     → Continues profile mid new (flat_map (joined_at profile picture memory) (filter (differs profile picture memory) (row_places columns row)))
     → Continues profile old new (flat_map (joined_at profile picture memory) (filter (differs profile picture memory) (places (row + 1) columns)))
-rows_go profile picture memory row columns old mid new first second =
-    subst (Continues profile old new) (sym (row_more (joined_at profile picture memory) (differs profile picture memory) row columns)) (goes_on profile old mid new _ _ first second)
+rows_go profile picture memory row columns old mid new first second = search (arith, row_more, goes_on)
 
 pub nothing_of : (profile : ProfileView) (picture : PictureView) (memory : MemoryView) (n columns : ℕ) (old : Draft) → filter (differs profile picture memory) (places n columns) ≡ []
     → Continues profile old old (flat_map (joined_at profile picture memory) (filter (differs profile picture memory) (places n columns)))
@@ -169,27 +158,22 @@ pub some_left : (profile : ProfileView) (picture : PictureView) (memory : Memory
 some_left profile picture memory r c high wide here = by (differing profile picture memory) (among_differing profile picture memory r c high wide ∙ here)
   where
     by : (list : List (ℕ × ℕ)) → is_among r c list ≡ true → is_none_left list ≡ false
-    by [] among = (cc)
-    by (place ∷ more) among = refl
+    by list among = grind arith
 
 pub none_left_at : (profile : ProfileView) (picture : PictureView) (memory : MemoryView) → ((r c : ℕ) → r < picture.rows → c < picture.columns → differs profile picture memory (r, c) ≡ false) → is_none_left (differing profile picture memory) ≡ true
 none_left_at profile picture memory same =
     let d = differs profile picture memory in
-    let whole : 0 + picture.rows ≡ picture.rows = omega arith in
-    ap (λ n. is_none_left (filter d (places n picture.columns))) (sym whole)
-    ∙ ap is_none_left (rows_same d 0 picture.rows picture.columns (λ r low below. none_in_part d 0 picture.columns r (λ c l wide. same r c (omega (arith, below)) (omega (arith, wide)))))
+    ap is_none_left (none_in_places d picture.rows picture.columns (λ r below. none_in_part d 0 picture.columns r (λ c low wide. same r c below (omega arith))))
 
 -- whether anything differs
 pub left_or_not : (profile : ProfileView) (picture : PictureView) (memory : MemoryView) (some : Bool) → (some ≡ false → (r c : ℕ) → r < picture.rows → c < picture.columns → differs profile picture memory (r, c) ≡ false)
     → (some ≡ true → (r : ℕ) × (c : ℕ) × (r < picture.rows) × (c < picture.columns) × (differs profile picture memory (r, c) ≡ true)) → is_none_left (differing profile picture memory) ≡ not some
-left_or_not profile picture memory true none one = let found = one refl in some_left profile picture memory found.0 found.1 found.2 found.3 found.4
-left_or_not profile picture memory false none one = none_left_at profile picture memory (none refl)
+left_or_not profile picture memory some none one = grind (arith, nat_tests, some_left, none_left_at)
 
 -- ---- answers
 
 pub on_ok : {T E : Type 0} (r : Result T E) (P Q : Type 0) → (P → Q) → OnOk r P → OnOk r Q
-on_ok (Ok a) P Q f h = f h
-on_ok (Err e) P Q f h = h
+on_ok r P Q f h = grind (arith, nat_tests)
 
 -- ---- places that differ with one pen, counted
 
@@ -206,10 +190,7 @@ one_counted laws have profile p painter picture k before row column unlike old m
     let look : LookView = painter_look painter picture (row, column) in
     painted_goes profile painter picture before row column old new left look unlike is_left refl
     (goes_on profile old mid new _ _ begun
-    (put_goes laws have profile p look.byte (byte_is picture k row column (grid_row picture.lines row) look.byte refl refl) mid new row column here (λ kept. never mid.keeps kept counts) paid keeps behind pen))
-  where
-    never : {R : Type 0} (b : Bool) → b ≡ true → b ≡ false → R
-    never b kept counts = (cc)
+    (put_goes laws have profile p look.byte (byte_is picture k row column (grid_row picture.lines row) look.byte refl refl) mid new row column here (λ kept. (cc)) paid keeps behind pen))
 
 Counts : ProfileView → Painter → PictureView → Option (List LookView) → ℕ → ℕ → ℕ → Draft → Draft → Type 0
 Counts profile painter picture before row column next old mid =
@@ -267,18 +248,11 @@ unlike_goes laws have profile p painter picture k columns before row column next
 pub left_by : (painter : Painter) (picture : PictureView) (before : Option (List LookView)) (row column next : ℕ) → column < next → (pen : PenView) → pen ≡ (painter_look painter picture (row, column)).pen
     → ((c : ℕ) → column ≤ c → c < next → row_differs painter picture before (row, c) ≡ true)
     → ((c : ℕ) → column ≤ c → c < next → (painter_look painter picture (row, c)).pen ≡ (painter_look painter picture (row, column)).pen) → Some pen ≡ pen_before painter picture before row next
-left_by painter picture before row column next more pen is_pen unlike alike =
-    let last : next - 1 + 1 ≡ next = omega (arith, more) in
-    ap (λ pen. Some pen) (is_pen ∙ sym (alike (next - 1) (omega (arith, more)) (omega (arith, more))))
-    ∙ sym (painted painter picture before row (next - 1) (unlike (next - 1) (omega (arith, more)) (omega (arith, more))))
-    ∙ ap (pen_before painter picture before row) last
+left_by painter picture before row column next more pen is_pen unlike alike = grind (arith, nat_tests)
 
 -- where the cursor is after them
 pub behind_by : (columns row column next : ℕ) → column < next → next < columns → spot_after columns row (next - 1) ≡ At row next
-behind_by columns row column next more wide = ap (λ b. if b then At row (next - 1 + 1) else Margin row) inside ∙ ap (At row) (omega (arith, more))
-  where
-    inside : nat_lt (next - 1 + 1) columns ≡ true
-    inside = grind (arith, nat_tests, more, wide)
+behind_by columns row column next more wide = grind (arith, nat_tests)
 
 -- ---- rows that were not counted
 
@@ -286,18 +260,12 @@ behind_by columns row column next more wide = ap (λ b. if b then At row (next -
 pub rows_behind : (f : ℕ × ℕ → List Op) (d : ℕ × ℕ → Bool) (row columns k : ℕ) → (rest : List Op) × (flat_map f (filter d (places (row + k) columns)) ≡ flat_map f (filter d (places row columns)) ++ rest)
 rows_behind f d row columns zero =
     let none : row + 0 ≡ row = omega arith in
-    ([], ap (λ n. flat_map f (filter d (places n columns))) none ∙ sym (append-nil (flat_map f (filter d (places row columns)))))
+    ([], rw (none, append-nil))
 rows_behind f d row columns (suc k) =
+    let before = rows_behind f d row columns k in
     let more : row + suc k ≡ row + k + 1 = omega arith in
-    by (rows_behind f d row columns k) more
-  where
-    by : (rest : List Op) × (flat_map f (filter d (places (row + k) columns)) ≡ flat_map f (filter d (places row columns)) ++ rest) → row + suc k ≡ row + k + 1
-        → (rest : List Op) × (flat_map f (filter d (places (row + suc k) columns)) ≡ flat_map f (filter d (places row columns)) ++ rest)
-    by before more =
-        let last : List Op = flat_map f (filter d (row_places columns (row + k))) in (
-          before.0 ++ last,
-          ap (λ n. flat_map f (filter d (places n columns))) more ∙ row_more f d (row + k) columns ∙ ap (λ ops. ops ++ last) before.1 ∙ append_assoc (flat_map f (filter d (places row columns))) before.0 last,
-        )
+    let last : List Op = flat_map f (filter d (row_places columns (row + k))) in
+    (before.0 ++ last, rw (more, row_more f d (row + k) columns, before.1, append_assoc))
 
 pub rows_counted : RunLaws → (profile : ProfileView) (picture : PictureView) (memory : MemoryView) (row : ℕ) → row ≤ picture.rows → (old new : Draft) (resets cursor : List Op)
     → Continues profile old new (flat_map (joined_at profile picture memory) (filter (differs profile picture memory) (places row picture.columns)))
@@ -306,13 +274,9 @@ rows_counted laws profile picture memory row few old new resets cursor goes =
     let f = joined_at profile picture memory in
     let d = differs profile picture memory in
     let behind = rows_behind f d row picture.columns (picture.rows - row) in
-    let whole : row + (picture.rows - row) ≡ picture.rows = omega (arith, few) in
-    let before : List Op = flat_map f (filter d (places row picture.columns)) in
-    let is : flat_map f (filter d (places picture.rows picture.columns)) ≡ before ++ behind.0 = ap (λ n. flat_map f (filter d (places n picture.columns))) (sym whole) ∙ behind.1 in
-    counts_less laws profile old new before (behind.0 ++ resets ++ cursor) _ goes (ap (λ ops. ops ++ resets ++ cursor) is ∙ rows_assoc before behind.0 resets cursor)
-  where
-    rows_assoc : (a b c d : List Op) → ((a ++ b) ++ c) ++ d ≡ a ++ ((b ++ c) ++ d)
-    rows_assoc a b c d = append_assoc (a ++ b) c d ∙ append_assoc a b (c ++ d) ∙ ap (λ l. a ++ l) (sym (append_assoc b c d))
+    let whole : row + (picture.rows - row) ≡ picture.rows = omega arith in
+    let is : flat_map f (filter d (places picture.rows picture.columns)) ≡ flat_map f (filter d (places row picture.columns)) ++ behind.0 = ap (λ n. flat_map f (filter d (places n picture.columns))) (sym whole) ∙ behind.1 in
+    counts_less laws profile old new (flat_map f (filter d (places row picture.columns))) (behind.0 ++ resets ++ cursor) _ goes (rw is (joined_assoc _ behind.0 resets cursor))
 
 pub all_counted : RunLaws → (profile : ProfileView) (old new : Draft) (more : List Op) → Continues profile old new more → CountsAtMost profile old new more
 all_counted laws profile old new more goes = counts_less laws profile old new more [] more goes (sym (append-nil more))

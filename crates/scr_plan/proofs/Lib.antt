@@ -1,6 +1,5 @@
 pub mod BriefLaws
 pub mod ChangedRowLaws
-pub mod CountLaws
 pub mod DraftLaws
 pub mod JoinLaws
 pub mod JoinedLaws
@@ -11,16 +10,12 @@ pub mod LookingLaws
 pub mod RememberedPlanLaws
 pub mod PartLaws
 pub mod PlaceLaws
-pub mod PlacesLaws
 pub mod PlainLaws
 pub mod PlanMadeLaws
 pub mod PlanningLaws
-pub mod Rows
 pub mod RunLaws
 pub mod ScratchLaws
-pub mod ScratchTextLaws
 pub mod UnknownRowLaws
-pub mod UpToDateLaws
 pub mod WipeLaws
 pub mod MovedLaws
 pub mod ShiftLaws

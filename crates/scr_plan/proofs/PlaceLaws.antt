@@ -1,8 +1,7 @@
 -- One place is painted from every state of a profile.
-use Rattle.std.proofs.Common.{◌≡◌, ℕ, ◌-◌, ◌<◌, ◌==◌, ◌&&◌, ◌||◌, Bool, true, false, All, cond, refl, ◌∙◌, sym, subst, ap, arith, eqb, List, [], ◌∷◌, ◌++◌, Option, Some, None, IfSome, option_and_then, bit_and, bit_or, get_or, nat_lt, map, filter, zero, suc, if◌then◌else◌}
+use Rattle.std.proofs.Common.{◌≡◌, ℕ, ◌<◌, ◌==◌, ◌||◌, Bool, true, All, cond, refl, ◌∙◌, ap, arith, eqb, List, [], ◌∷◌, ◌++◌, Option, Some, None, IfSome, bit_and, bit_or, get_or, map, filter, zero, suc, option_and_then, if◌then◌else◌}
 use Rattle.std.specs.List.{AllByRecursion}
 use Rattle.std.specs.Int.{bit_at}
-use Rattle.std.proofs.Math.Bool.{or-true}
 use Rattle.std.proofs.lemmas.Bool.{agree_below_at, eqb-true}
 use Rattle.std.proofs.lemmas.Bool.Decides.{nat_tests}
 use Rattle.std.proofs.lemmas.List.Elements.{recursion_from_All}
@@ -10,20 +9,20 @@ use Rattle.std.proofs.lemmas.Nat.{and_le_l}
 use Rattle.std.proofs.lemmas.Nat.Bits.{same_from_bits, bit_at_and}
 use Rattle.scr_cells.specs.Attributes.{all_attributes, attributes_of}
 use Rattle.scr_cells.specs.CellViews.{CellView, IsCell, blank_cell}
-use Rattle.scr_cells.specs.Grids.{grid_at, grid_with}
+use Rattle.scr_cells.specs.Grids.{grid_at, is_in_run}
 use Rattle.scr_cells.specs.LookViews.{LookView}
-use Rattle.scr_cells.specs.PenViews.{IsColour, PenView, is_plain_pen, pair_colours, plain_pen, with_attribute}
-use Rattle.scr_cells.specs.PictureViews.{PictureView, AreColours, IsPicture, IsPlace}
+use Rattle.scr_cells.specs.PenViews.{is_plain_pen, pair_colours, plain_pen}
+use Rattle.scr_cells.specs.PictureViews.{PictureView, IsPicture, IsPlace}
 use Rattle.scr_term.specs.declared.operations.capability.Capability.TheVariants.{Sgr0}
 use Rattle.scr_term.specs.declared.operations.operation.Op.{Op}
-use Rattle.scr_term.specs.declared.operations.operation.Op.TheVariants.{Move, Reset, Fore, Back, Put}
+use Rattle.scr_term.specs.declared.operations.operation.Op.TheVariants.{EraseBelow, EraseLine, Move, Reset}
 use Rattle.scr_term.specs.declared.operations.operation.Spot.TheVariants.{At}
 use Rattle.scr_term.specs.Operations.Laws.{HasLaws, ProfilesHave, RunLaws}
 use Rattle.scr_term.specs.Operations.Profiles.{ProfileView, IsProfile, abilities, has_colours, is_there, shown_set}
-use Rattle.scr_term.specs.Operations.States.{TerminalState, AreShownColours, IsShownPen, moved_to, spot_after}
-use Rattle.scr_term.specs.Operations.Steps.{act, runs}
+use Rattle.scr_term.specs.Operations.States.{TerminalState, IsShownPen, erased, from_place, is_from_place, rest_of_line_erased}
+use Rattle.scr_term.specs.Operations.Steps.{act, lines_below_erased, runs, step}
 use Rattle.scr_term.specs.Operations.Texts.{has, is_attribute}
-use Rattle.scr_plan.specs.Scratch.{enter, goes, look_at, renders, resets, sets_background, sets_foreground, PlaceIsPainted}
+use Rattle.scr_plan.specs.Scratch.{enter, look_at, renders, resets, sets_background, sets_foreground, PlaceIsPainted}
 
 -- ---- runs
 
@@ -32,20 +31,30 @@ pub then_runs : RunLaws → (profile : ProfileView) (old next new : TerminalStat
     → runs profile old (xs ++ ys) ≡ Some new
 then_runs laws profile old next new xs ys first second = laws.joined profile old next xs ys first ∙ second
 
+-- a step that leads to a state, and one that goes on from there
+pub goes_on : {A : Type 0} (first : Option A) (f : A → Option A) (new : A) → option_and_then f first ≡ Some new → (next : A) × (first ≡ Some next) × (f next ≡ Some new)
+goes_on None f new e = (cc)
+goes_on (Some next) f new e = (next, refl, e)
+
+-- the first operation of a run
+pub first_step : (profile : ProfileView) (old new : TerminalState) (op : Op) (ops : List Op) → runs profile old (op ∷ ops) ≡ Some new → (next : TerminalState) × (step profile old op ≡ Some next) × (runs profile next ops ≡ Some new)
+first_step profile old new op ops run = goes_on (step profile old op) (λ s. runs profile s ops) new run
+
 -- one operation that the profile has
 pub one_run : (profile : ProfileView) (old new : TerminalState) (op : Op) → has profile op ≡ true → act profile old op ≡ Some new → runs profile old (op ∷ []) ≡ Some new
-one_run profile old new op had acts =
-    ap (option_and_then (λ next. runs profile next [])) (ap (λ b. if b then act profile old op else None) had ∙ acts)
+one_run profile old new op had acts = grind (arith, nat_tests)
+
+-- what erases with a plain pen: the rest of the line, and all lines from the cursor's on
+pub erases_line : (profile : ProfileView) (state : TerminalState) (r c : ℕ) → state.spot ≡ At r c → is_plain_pen state.pen ≡ true → act profile state EraseLine ≡ Some (erased profile.rows profile.columns (is_in_run r c profile.columns) state)
+erases_line profile state r c here plain =
+    ap (λ b. if b then rest_of_line_erased profile.rows profile.columns state else None) plain ∙ ap (λ spot. from_place spot (λ r c. Some (erased profile.rows profile.columns (is_in_run r c profile.columns) state))) here
+
+pub erases_below : (profile : ProfileView) (state : TerminalState) (top : ℕ) → state.spot ≡ At top 0 → is_plain_pen state.pen ≡ true → act profile state EraseBelow ≡ Some (erased profile.rows profile.columns (is_from_place top 0) state)
+erases_below profile state top here plain =
+    ap (λ b. if b then lines_below_erased profile.rows profile.columns state else None) plain
+    ∙ ap (λ spot. from_place spot (λ r c. if c == 0 then Some (erased profile.rows profile.columns (is_from_place r c) state) else None)) here
 
 -- ---- the cursor goes to a place
-
--- a terminal that cannot reset has a plain pen
-pub plain_only : (profile : ProfileView) → HasLaws profile → is_there profile Sgr0 ≡ false → (pen : PenView) → IsShownPen (abilities profile) pen → pen ≡ plain_pen
-plain_only profile can none pen shown =
-    let nothing : bit_and 0 pen.attrs ≡ pen.attrs = ap (λ set. bit_and set pen.attrs) (sym (can.plain_set none)) ∙ shown.attrs in
-    let attrs : pen.attrs ≡ 0 = omega (arith, nothing, and_le_l 0 pen.attrs) in
-    let colours : AreShownColours false pen.foreground pen.background = subst (λ b. AreShownColours b pen.foreground pen.background) (can.plain_colours none) shown.colours in
-    λ i. record { attrs = attrs i; foreground = colours.0 i; background = colours.1 i }
 
 -- the state with a plain pen, and with the cursor elsewhere
 abbrev pub plain : TerminalState → TerminalState
@@ -56,31 +65,19 @@ at_place state place = record { grid = state.grid; spot = At place.0 place.1; pe
 
 resets_by : (profile : ProfileView) → HasLaws profile → (old : TerminalState) → IsShownPen (abilities profile) old.pen → (b : Bool) → is_there profile Sgr0 ≡ b
     → runs profile old (if b then Reset ∷ [] else []) ≡ Some (plain old)
-resets_by profile can old shown true there = one_run profile old (plain old) Reset (can.reset there) refl
-resets_by profile can old shown false there = ap (λ pen. Some (record { grid = old.grid; spot = old.spot; pen = pen })) (plain_only profile can there old.pen shown)
+resets_by profile can old shown b there = grind (arith, nat_tests)
 
 pub resets_run : (profile : ProfileView) → HasLaws profile → (old : TerminalState) → IsShownPen (abilities profile) old.pen → runs profile old (resets profile) ≡ Some (plain old)
 resets_run profile can old shown = resets_by profile can old shown (is_there profile Sgr0) refl
 
 pub move_run : (profile : ProfileView) → HasLaws profile → (old : TerminalState) (place : ℕ × ℕ) → IsPlace profile.rows profile.columns place
     → (profile.msgr || is_plain_pen old.pen) ≡ true → runs profile old (Move place.0 place.1 ∷ []) ≡ Some (at_place old place)
-move_run profile can old place inside free =
-    let here : (nat_lt place.0 profile.rows && nat_lt place.1 profile.columns) ≡ true = grind (arith, nat_tests, inside.0, inside.1) in
-    one_run profile old (at_place old place) (Move place.0 place.1) (can.move place.0 place.1 inside.0 inside.1)
-    (ap (λ b. if b then moved_to profile.rows profile.columns old place.0 place.1 else None) free
-    ∙ ap (λ b. if b then Some (at_place old place) else None) here)
+move_run profile can old place inside free = grind (arith, nat_tests)
 
 pub goes_by : RunLaws → (profile : ProfileView) → HasLaws profile → (old : TerminalState) → IsShownPen (abilities profile) old.pen → (place : ℕ × ℕ) → IsPlace profile.rows profile.columns place
     → (b : Bool) → profile.msgr ≡ b
     → runs profile old (if b then Move place.0 place.1 ∷ resets profile else resets profile ++ Move place.0 place.1 ∷ []) ≡ Some (plain (at_place old place))
-goes_by laws profile can old shown place inside true free =
-    then_runs laws profile old (at_place old place) (plain (at_place old place)) (Move place.0 place.1 ∷ []) (resets profile)
-    (move_run profile can old place inside (ap (λ b. b || is_plain_pen old.pen) free))
-    (resets_run profile can (at_place old place) shown)
-goes_by laws profile can old shown place inside false free =
-    then_runs laws profile old (plain old) (plain (at_place old place)) (resets profile) (Move place.0 place.1 ∷ [])
-    (resets_run profile can old shown)
-    (move_run profile can (plain old) place inside (or-true profile.msgr))
+goes_by laws profile can old shown place inside b free = grind (arith, nat_tests)
 
 -- ---- attributes and colours
 
@@ -110,18 +107,12 @@ Enters profile attributes =
 
 enters_more : RunLaws → (profile : ProfileView) → HasLaws profile → (set a : ℕ) (rest : List ℕ) → is_attribute a ≡ true → Enters profile rest
     → (b : Bool) → (bit_and (bit_and (shown_set profile) set) a == a) ≡ b → Enters profile (cond b (a ∷ rest) rest)
-enters_more laws profile can set a rest one h true e = λ old.
-    let next : TerminalState = record { grid = old.grid; spot = old.spot; pen = with_attribute old.pen a } in
-    then_runs laws profile old next (record { grid = old.grid; spot = old.spot; pen = record old.pen { attrs = with_each old.pen.attrs (a ∷ rest) } }) (enter a ∷ []) (map enter rest)
-    (one_run profile old next (enter a) (can.enter a one (shown_member (shown_set profile) set a (eqb-true _ _ e))) refl)
-    (h next)
-enters_more laws profile can set a rest one h false e = h
+enters_more laws profile can set a rest one h b e = grind (arith, nat_tests, then_runs, one_run, shown_member, eqb-true)
 
 enters : RunLaws → (profile : ProfileView) → HasLaws profile → (set : ℕ) (attributes : List ℕ) → AllByRecursion (λ a. is_attribute a ≡ true) attributes
     → Enters profile (seen_of (shown_set profile) set attributes)
 enters laws profile can set [] each = λ old. refl
-enters laws profile can set (a ∷ rest) each =
-    enters_more laws profile can set a (seen_of (shown_set profile) set rest) each.0 (enters laws profile can set rest each.1) (bit_and (bit_and (shown_set profile) set) a == a) refl
+enters laws profile can set (a ∷ rest) each = grind (arith, nat_tests, enters laws profile can set rest each.1, enters_more)
 
 -- a colour that the terminal shows
 abbrev IsSeen : ProfileView → ℕ → Type 0
@@ -134,15 +125,11 @@ with_pen state place attrs foreground background =
 
 foreground_set : (profile : ProfileView) → HasLaws profile → (old : TerminalState) (place : ℕ × ℕ) (attrs : ℕ) (f : Option ℕ) → IfSome f (IsSeen profile)
     → runs profile (with_pen old place attrs None None) (sets_foreground f) ≡ Some (with_pen old place attrs f None)
-foreground_set profile can old place attrs None seen = refl
-foreground_set profile can old place attrs (Some n) seen =
-    one_run profile (with_pen old place attrs None None) (with_pen old place attrs (Some n) None) (Fore n) (can.fore n seen.0 seen.1) refl
+foreground_set profile can old place attrs f seen = grind (arith, nat_tests)
 
 background_set : (profile : ProfileView) → HasLaws profile → (old : TerminalState) (place : ℕ × ℕ) (attrs : ℕ) (f b : Option ℕ) → IfSome b (IsSeen profile)
     → runs profile (with_pen old place attrs f None) (sets_background b) ≡ Some (with_pen old place attrs f b)
-background_set profile can old place attrs f None seen = refl
-background_set profile can old place attrs f (Some n) seen =
-    one_run profile (with_pen old place attrs f None) (with_pen old place attrs f (Some n)) (Back n) (can.back n seen.0 seen.1) refl
+background_set profile can old place attrs f b seen = grind (arith, nat_tests)
 
 -- ---- what is seen of a cell
 
@@ -160,27 +147,9 @@ cell_of [] r c each = blank_is_cell
 cell_of (line ∷ lines) zero c each = cell_of_row line c (recursion_from_All IsCell line each.0)
 cell_of (line ∷ lines) (suc r) c each = cell_of lines r c each.1
 
--- the colours of a pair can be set, where colours are shown
-abbrev colours_unless : Bool → List (Option ℕ × Option ℕ) → ℕ → Option ℕ × Option ℕ
-colours_unless none pairs pair = if none then (None, None) else get_or pairs (pair - 1) (Some 7, Some 0)
-
-colour_seen : (profile : ProfileView) (colour : Option ℕ) → IfSome colour IsColour → has_colours profile ≡ true → IfSome colour (IsSeen profile)
-colour_seen profile None is shown = tt
-colour_seen profile (Some colour) is shown = (is, shown)
-
-pair_seen : (profile : ProfileView) (picture : PictureView) → IsPicture picture → (pair : ℕ) → pair < 64 → has_colours profile ≡ true → (none : Bool) → (pair == 0) ≡ none
-    → IfSome (colours_unless none picture.pairs pair).0 (IsSeen profile) × IfSome (colours_unless none picture.pairs pair).1 (IsSeen profile)
-pair_seen profile picture k pair small shown true e = (tt, tt)
-pair_seen profile picture k pair small shown false e =
-    let inside : pair - 1 < 63 = grind (arith, nat_tests) in
-    let pen : Option ℕ × Option ℕ = get_or picture.pairs (pair - 1) (Some 7, Some 0) in
-    let colours : AreColours pen = k.colours (pair - 1) (Some 7, Some 0) (omega (arith, inside, k.all_pairs)) in
-    (colour_seen profile pen.0 colours.0 shown, colour_seen profile pen.1 colours.1 shown)
-
 colours_seen : (profile : ProfileView) (picture : PictureView) → IsPicture picture → (pair : ℕ) → pair < 64 → (b : Bool) → has_colours profile ≡ b
     → IfSome (if b then (pair_colours picture.pairs pair).0 else None) (IsSeen profile) × IfSome (if b then (pair_colours picture.pairs pair).1 else None) (IsSeen profile)
-colours_seen profile picture k pair small true shown = pair_seen profile picture k pair small shown (pair == 0) refl
-colours_seen profile picture k pair small false shown = (tt, tt)
+colours_seen profile picture k pair small b shown = grind (arith, nat_tests)
 
 -- ---- a place
 
@@ -212,12 +181,4 @@ begun_run laws have profile p picture k place old =
     (background_set profile can old place attrs look.pen.foreground look.pen.background seen.1)
 
 pub place_is_painted : RunLaws → ProfilesHave → PlaceIsPainted
-place_is_painted laws have profile p picture k place inside old s =
-    let can = have profile p in
-    let is : IsCell (grid_at blank_cell picture.lines place.0 place.1) = cell_of picture.lines place.0 place.1 (recursion_from_All (All IsCell) picture.lines k.cells) in
-    let look : LookView = look_at profile picture place in
-    let new : TerminalState = record { grid = grid_with old.grid place.0 place.1 look; spot = spot_after profile.columns place.0 place.1; pen = look.pen } in
-    then_runs laws profile old (begun old picture profile place) new (goes profile place ++ renders look.pen) (Put look.byte ∷ [])
-    (then_runs laws profile old (plain (at_place old place)) (begun old picture profile place) (goes profile place) (renders look.pen)
-    (goes_by laws profile can old s.pen place inside profile.msgr refl) (begun_run laws have profile p picture k place old))
-    (one_run profile (begun old picture profile place) new (Put look.byte) (can.put look.byte is.character) refl)
+place_is_painted laws have profile p picture k place inside old s = grind (arith, nat_tests, cell_of, recursion_from_All, then_runs, goes_by, begun_run, one_run)

@@ -1,5 +1,6 @@
 -- The sure repaint is all that an update wants.
-use Rattle.std.proofs.Common.{◌≡◌, ℕ, ◌≤◌, append_assoc, ◌&&◌, not, Bool, true, false, refl, sym, ◌∙◌, ap, subst, arith, List, [], ◌∷◌, ◌++◌, length, Result, Ok, Err, IfOk, if◌then◌else◌}
+use Rattle.std.proofs.lemmas.Bool.Decides.{nat_tests}
+use Rattle.std.proofs.Common.{◌≡◌, ◌≤◌, append_assoc, ◌&&◌, not, Bool, true, false, refl, subst, arith, List, [], ◌∷◌, ◌++◌, length, Result, IfOk, if◌then◌else◌}
 use Rattle.scr_cells.specs.Grids.{IsGrid}
 use Rattle.scr_cells.specs.PictureViews.{IsPicture}
 use Rattle.scr_cells.specs.declared.NoMemory.{NoMemory}
@@ -14,31 +15,30 @@ use Rattle.scr_plan.proofs.RememberedPlanLaws.{agrees_itself}
 use Rattle.scr_plan.proofs.ShortPlanLaws.{begins_with, not_nothing}
 use Rattle.scr_memory.specs.Memories.{MemoryView, is_known}
 use Rattle.scr_memory.specs.MemoryRuns.{MemoryRuns}
-use Rattle.scr_plan.specs.Plans.{PlansAreRemembered}
-use Rattle.scr_plan.specs.Plans.{IsPlan, PlanIsCheap, PlansAreMade}
+use Rattle.scr_plan.specs.Plans.{IsPlan, PlanIsCheap, PlansAreMade, PlansAreRemembered}
 use Rattle.scr_plan.specs.Repaints.{JoinedIsCheap, JoinedShows, anew_of, cleared, joined_of, joined_places, without_idle}
-use Rattle.scr_plan.specs.Scratch.{Fits, ScratchIsBounded, places_cursor, resets, scratch_of}
-
-never : {R : Type 0} (b : Bool) → b ≡ true → b ≡ false → R
-never true e f = (cc)
-never false e f = (cc)
+use Rattle.scr_plan.specs.Scratch.{Fits, ScratchIsBounded, places_cursor, resets}
 
 -- where all is known and the screen is not to be painted anew, the joined repaint
 joined_plan : JoinedShows → ScratchIsBounded → MemoryRuns → (profile : ProfileView) → IsProfile profile → (virtual : VirtualView) → IsPicture virtual.picture → Fits profile virtual.picture
-    → (memory : MemoryView) → IsGrid profile.rows profile.columns memory.state.grid → is_known memory ≡ true → virtual.repaint ≡ false → IsPlan profile memory virtual (joined_of profile memory virtual.picture)
-joined_plan shows bounded runs profile p virtual k fits memory whole known calm = record {
-  shows = λ old start. shows.joined profile p virtual.picture k fits memory whole old (start.agrees calm) known;
-  agrees = λ may old new start run. runs.follows profile p memory may old new (joined_of profile memory virtual.picture) (start.agrees calm) run;
+    → (memory : MemoryView) → IsGrid profile.rows profile.columns memory.state.grid → (due : (is_known memory && not virtual.repaint) ≡ true) → IsPlan profile memory virtual (joined_of profile memory virtual.picture)
+joined_plan shows bounded runs profile p virtual k fits memory whole due = record {
+  shows = λ old start. shows.joined profile p virtual.picture k fits memory whole old (start.agrees (calm virtual.repaint due)) (known virtual.repaint due);
+  agrees = λ may old new start run. runs.follows profile p memory may old new (joined_of profile memory virtual.picture) (start.agrees (calm virtual.repaint due)) run;
   known = λ may.
       let agrees = agrees_itself (abilities profile) memory may in
-      let run = shows.joined profile p virtual.picture k fits memory whole memory.state agrees known in
-      runs.stays_known profile p memory may memory.state run.new (joined_of profile memory virtual.picture) agrees run.run known;
-  begins = λ unknown there. never virtual.repaint (not_nothing memory virtual.repaint known unknown) calm;
+      let run = shows.joined profile p virtual.picture k fits memory whole memory.state agrees (known virtual.repaint due) in
+      runs.stays_known profile p memory may memory.state run.new (joined_of profile memory virtual.picture) agrees run.run (known virtual.repaint due);
+  begins = λ unknown there. not_nothing memory virtual.repaint due unknown;
   few = omega (arith, joined_less length profile memory virtual.picture (count_fewer profile virtual.picture memory), plain_less length count_is profile memory virtual.picture, bounded profile virtual.picture);
-  cheap =
-      let due : (is_known memory && not virtual.repaint) ≡ true = (λ i. known i && not (calm i)) in
-      subst (λ due. length (all_bytes profile (joined_of profile memory virtual.picture)) ≤ length (all_bytes profile (if due then joined_of profile memory virtual.picture else scratch_of profile virtual.picture))) (sym due) (omega arith);
+  cheap = rw due (omega arith);
 }
+  where
+    known : (repaint : Bool) → (is_known memory && not repaint) ≡ true → is_known memory ≡ true
+    known repaint e = grind arith
+
+    calm : (repaint : Bool) → (is_known memory && not repaint) ≡ true → repaint ≡ false
+    calm repaint e = grind arith
 
 -- else what paints the screen anew
 anew_plan : JoinedShows → JoinedIsCheap → PlansAreRemembered → ScratchIsBounded → (profile : ProfileView) → IsProfile profile → (virtual : VirtualView) → IsPicture virtual.picture → Fits profile virtual.picture
@@ -53,22 +53,19 @@ anew_plan shows cheap remembered bounded profile p virtual k fits memory due = r
   begins = λ unknown there.
       let more : List Op = without_idle profile (blank_state profile.rows profile.columns) (joined_places profile virtual.picture (cleared virtual.picture) ++ resets profile ++ places_cursor virtual.picture.wish) in
       begins_with profile (anew_of profile virtual.picture) (Clear ∷ [] ++ more) there (append_assoc (resets profile) (Clear ∷ []) more);
-  cheap = subst (λ due. length (all_bytes profile (anew_of profile virtual.picture)) ≤ length (all_bytes profile (if due then joined_of profile memory virtual.picture else scratch_of profile virtual.picture))) (sym due) (cheap.anew profile virtual.picture);
+  cheap = rw due (cheap.anew profile virtual.picture);
 }
 
 pub plans_are_made : JoinedShows → JoinedIsCheap → PlansAreRemembered → ScratchIsBounded → MemoryRuns → PlansAreMade
-plans_are_made shows cheap remembered bounded runs profile p virtual k fits memory whole = by (is_known memory) virtual.repaint refl refl
+plans_are_made shows cheap remembered bounded runs profile p virtual k fits memory whole = by (is_known memory && not virtual.repaint) refl
   where
-    by : (known repaint : Bool) → is_known memory ≡ known → virtual.repaint ≡ repaint
-        → IsPlan profile memory virtual (if known && not repaint then joined_of profile memory virtual.picture else anew_of profile virtual.picture)
-    by true false known calm = joined_plan shows bounded runs profile p virtual k fits memory whole known calm
-    by true true known calm = anew_plan shows cheap remembered bounded profile p virtual k fits memory (ap (λ b. is_known memory && not b) calm ∙ ap (λ b. b && false) known)
-    by false repaint known calm = anew_plan shows cheap remembered bounded profile p virtual k fits memory (ap (λ b. b && not virtual.repaint) known)
+    by : (due : Bool) → (is_known memory && not virtual.repaint) ≡ due → IsPlan profile memory virtual (if due then joined_of profile memory virtual.picture else anew_of profile virtual.picture)
+    by true due = joined_plan shows bounded runs profile p virtual k fits memory whole due
+    by false due = anew_plan shows cheap remembered bounded profile p virtual k fits memory due
 
 pub plan_is_cheap : JoinedIsCheap → PlanIsCheap
 plan_is_cheap cheap = record {
-  scratch = λ profile memory virtual ops plan.
-      by profile memory virtual (length (all_bytes profile ops)) (is_known memory && not virtual.repaint) plan.cheap;
+  scratch = λ profile memory virtual ops plan. grind (arith, plan.cheap, cheap.joined profile memory virtual.picture, cheap.plain profile memory virtual.picture);
   joined = joined;
   plain = λ profile memory virtual ops plan known calm. omega (arith, joined profile memory virtual ops plan known calm, cheap.joined profile memory virtual.picture);
   none = λ profile memory virtual ops plan known calm none placed.
@@ -77,14 +74,7 @@ plan_is_cheap cheap = record {
   where
     joined : (profile : ProfileView) (memory : MemoryView) (virtual : VirtualView) (ops : List Op) → IsPlan profile memory virtual ops → is_known memory ≡ true → virtual.repaint ≡ false
         → length (all_bytes profile ops) ≤ length (all_bytes profile (joined_of profile memory virtual.picture))
-    joined profile memory virtual ops plan known calm =
-        let due : (is_known memory && not virtual.repaint) ≡ true = (λ i. known i && not (calm i)) in
-        subst (λ due. length (all_bytes profile ops) ≤ length (all_bytes profile (if due then joined_of profile memory virtual.picture else scratch_of profile virtual.picture))) due plan.cheap
-
-    by : (profile : ProfileView) (memory : MemoryView) (virtual : VirtualView) (n : ℕ) (due : Bool) → n ≤ length (all_bytes profile (if due then joined_of profile memory virtual.picture else scratch_of profile virtual.picture))
-        → n ≤ length (all_bytes profile (scratch_of profile virtual.picture))
-    by profile memory virtual n true h = omega (arith, h, cheap.joined profile memory virtual.picture, cheap.plain profile memory virtual.picture)
-    by profile memory virtual n false h = h
+    joined profile memory virtual ops plan known calm = grind (arith, plan.cheap)
 
     empty : {A : Type 0} (xs : List A) → length xs ≤ 0 → xs ≡ []
     empty [] h = refl
@@ -92,17 +82,6 @@ plan_is_cheap cheap = record {
 
 -- ---- answers
 
-ok_map : {A E : Type 0} (r : Result A E) (P Q : A → Type 0) → ((a : A) → P a → Q a) → IfOk r P → IfOk r Q
-ok_map (Ok a) P Q f h = f a h
-ok_map (Err e) P Q f h = h
-
--- a repaint that was made is a plan
-pub sure_plan : PlansAreMade → (profile : ProfileView) → IsProfile profile → (virtual : VirtualView) → IsPicture virtual.picture → Fits profile virtual.picture → (memory : MemoryView) → IsGrid profile.rows profile.columns memory.state.grid → (due : Bool) → (is_known memory && not virtual.repaint) ≡ due
-    → (ops : List Op) → ops ≡ (if due then joined_of profile memory virtual.picture else anew_of profile virtual.picture) → IsPlan profile memory virtual ops
-sure_plan made profile p virtual k fits memory whole due is ops same =
-    subst (IsPlan profile memory virtual) (sym (same ∙ ap (λ b. if b then joined_of profile memory virtual.picture else anew_of profile virtual.picture) (sym is))) (made profile p virtual k fits memory whole)
-
 pub sure_plans : PlansAreMade → (profile : ProfileView) → IsProfile profile → (virtual : VirtualView) → IsPicture virtual.picture → Fits profile virtual.picture → (memory : MemoryView) → IsGrid profile.rows profile.columns memory.state.grid → (due : Bool) → (is_known memory && not virtual.repaint) ≡ due
     → (r : Result (List Op) NoMemory) → IfOk r (λ ops. ops ≡ (if due then joined_of profile memory virtual.picture else anew_of profile virtual.picture)) → IfOk r (IsPlan profile memory virtual)
-sure_plans made profile p virtual k fits memory whole due is r same =
-    ok_map r (λ ops. ops ≡ (if due then joined_of profile memory virtual.picture else anew_of profile virtual.picture)) (IsPlan profile memory virtual) (λ ops e. sure_plan made profile p virtual k fits memory whole due is ops e) same
+sure_plans made profile p virtual k fits memory whole due is r same = grind (arith, nat_tests)

@@ -1,12 +1,11 @@
 -- Runs that wait: what is in them.
-use Rattle.std.proofs.Common.{◌≡◌, ℕ, zero, suc, ◌-◌, ◌<◌, ◌≤◌, ◌==◌, ◌&&◌, ◌||◌, not, Bool, true, false, refl, sym, ◌∙◌, ap, arith, List, [], ◌∷◌, ◌++◌, drop, get_or, length, length-drop, ltb, option_map, set, take}
+use Rattle.std.proofs.Common.{◌≡◌, ℕ, zero, suc, ◌-◌, ◌<◌, ◌≤◌, ◌==◌, ◌&&◌, ◌||◌, not, true, false, refl, sym, ◌∙◌, ap, arith, List, [], ◌∷◌, ◌++◌, drop, get_or, length, length-drop, set, take}
 use Rattle.std.proofs.lemmas.Bool.Decides.{nat_tests}
 use Rattle.std.proofs.lemmas.List.{take_all}
 use Rattle.scr_cells.specs.PictureViews.{PictureView}
 use Rattle.scr_term.specs.Operations.Profiles.{ProfileView}
 use Rattle.scr_plan.proofs.DraftLaws.{weaker}
 use Rattle.scr_plan.specs.Code.Drafts.{Covers, KeepsOthers, KeepsRuns, Leaves, in_runs, is_in, no_run, without}
-use Rattle.scr_plan.specs.Code.Painters.{row_differs}
 use Rattle.scr_plan.specs.Code.Runs.{CutsOff, IsSameRow, differs_at}
 use Rattle.scr_plan.specs.declared.runs.Cut.{Cut}
 use Rattle.scr_prices.specs.declared.runs.Run.{Run}
@@ -14,38 +13,16 @@ use Rattle.scr_plan.specs.declared.strokes.Draft.{Draft}
 
 -- ---- runs that are visited
 
-or_assoc : (a b c : Bool) → ((a || b) || c) ≡ (a || (b || c))
-or_assoc true b c = refl
-or_assoc false b c = refl
-
-pub or_nothing : (a : Bool) → (a || false) ≡ a
-or_nothing true = refl
-or_nothing false = refl
-
 -- in one of some runs or in one of others
 pub in_both : (xs ys : List Run) (place : ℕ × ℕ) → in_runs (xs ++ ys) place ≡ (in_runs xs place || in_runs ys place)
 in_both [] ys place = refl
-in_both (x ∷ xs) ys place = ap (λ b. is_in x place || b) (in_both xs ys place) ∙ sym (or_assoc (is_in x place) (in_runs xs place) (in_runs ys place))
+in_both (x ∷ xs) ys place = grind (arith, in_both xs ys place)
 
 -- what is in no run but one that was emptied was in that one alone
 set_left : (runs : List Run) (number : ℕ) (place : ℕ × ℕ) → in_runs (set runs number no_run) place ≡ false → (in_runs runs place && not (is_in (get_or runs number no_run) place)) ≡ false
 set_left [] number place e = refl
-set_left (run ∷ runs) zero place e = by (is_in run place) (in_runs runs place) (none e)
-  where
-    nothing : is_in no_run place ≡ false
-    nothing = grind (arith, nat_tests)
-
-    none : in_runs (set (run ∷ runs) zero no_run) place ≡ false → in_runs runs place ≡ false
-    none e = sym (ap (λ b. b || in_runs runs place) nothing) ∙ e
-
-    by : (a b : Bool) → b ≡ false → ((a || b) && not a) ≡ false
-    by true b e = refl
-    by false b e = ap (λ b. b && not false) e
-set_left (run ∷ runs) (suc number) place e = by (is_in run place) (in_runs (set runs number no_run) place) (in_runs runs place) (is_in (get_or runs number no_run) place) e (set_left runs number place)
-  where
-    by : (a b d g : Bool) → (a || b) ≡ false → (b ≡ false → (d && not g) ≡ false) → ((a || d) && not g) ≡ false
-    by true b d g e rest = (cc)
-    by false b d g e rest = rest e
+set_left (run ∷ runs) zero place e = grind (arith, nat_tests)
+set_left (run ∷ runs) (suc number) place e = grind (arith, set_left runs number place)
 
 pub visited : (profile : ProfileView) (picture : PictureView) (runs left : List Run) (number : ℕ) (run : Run) (old new : Draft) → get_or runs number no_run ≡ run → left ≡ set runs number no_run → Covers profile picture (is_in run) old new → Leaves profile picture runs left old new
 visited profile picture runs left number run old new is emptied covers paid first start right =
@@ -55,17 +32,7 @@ visited profile picture runs left number run old new is emptied covers paid firs
 -- the last run is visited and goes
 pub popped : (profile : ProfileView) (picture : PictureView) (runs left : List Run) (run : Run) (old new : Draft) → runs ≡ left ++ run ∷ [] → Covers profile picture (is_in run) old new → Leaves profile picture runs left old new
 popped profile picture runs left run old new is covers paid first start right =
-    weaker profile picture (without (is_in run) (in_runs runs)) (in_runs left) new (λ place e. by place (in_runs left place) e (is_in run place) refl) paid first start (covers (in_runs runs) paid first start right)
-  where
-    all : (place : ℕ × ℕ) → in_runs runs place ≡ (in_runs left place || is_in run place)
-    all place = ap (λ runs. in_runs runs place) is ∙ in_both left (run ∷ []) place ∙ ap (λ b. in_runs left place || b) (or_nothing (is_in run place))
-
-    by : (place : ℕ × ℕ) (a : Bool) → in_runs left place ≡ false → (b : Bool) → is_in run place ≡ b → (in_runs runs place && not (is_in run place)) ≡ false
-    by place a e b here = ap (λ r. r && not (is_in run place)) (all place ∙ ap (λ l. l || is_in run place) e) ∙ one (is_in run place)
-      where
-        one : (b : Bool) → (b && not b) ≡ false
-        one true = refl
-        one false = refl
+    weaker profile picture (without (is_in run) (in_runs runs)) (in_runs left) new (λ place e. rw (is, in_both left (run ∷ []) place) (grind arith)) paid first start (covers (in_runs runs) paid first start right)
 
 pub leaves_then : (profile : ProfileView) (picture : PictureView) (runs some left : List Run) (old mid new : Draft) → Leaves profile picture runs some old mid → Leaves profile picture some left mid new → Leaves profile picture runs left old new
 leaves_then profile picture runs some left old mid new one other paid first start right = other paid first start (one paid first start right)
@@ -76,17 +43,9 @@ rest_of n runs = take_all (length runs - n) (drop n runs) (omega (arith, length-
 
 -- ---- runs that are found again
 
-or_left : (a b : Bool) → a ≡ true → (a || b) ≡ true
-or_left true b e = refl
-or_left false b e = (cc)
-
-or_right : (a b : Bool) → b ≡ true → (a || b) ≡ true
-or_right true b e = refl
-or_right false b e = e
-
 -- what is in one of some runs is in one of more
 pub in_more : (some ys more : List Run) → more ≡ some ++ ys → KeepsRuns some more
-in_more some ys more is place e = ap (λ runs. in_runs runs place) is ∙ in_both some ys place ∙ or_left (in_runs some place) (in_runs ys place) e
+in_more some ys more is place e = rw (is, in_both some ys place) (grind arith)
 
 -- the runs of a row are taken out: what is in another row is in a run before them or after them
 taken_out : (runs : List Run) (begun after row : ℕ) → begun ≤ after → after ≤ length runs → ((k : ℕ) (other : Run) → begun ≤ k → k < after → (get_or runs k other).row ≡ row)
@@ -96,31 +55,22 @@ taken_out (run ∷ runs) zero zero row order inside own place out e = e
 taken_out (run ∷ runs) zero (suc after) row order inside own place out e =
     let its : run.row ≡ row = own 0 no_run (omega arith) (omega arith) in
     let off : is_in run place ≡ false = grind (arith, nat_tests) in
-    taken_out runs zero after row (omega arith) (omega (arith, inside)) (λ k other low high. own (suc k) other (omega arith) (omega (arith, high))) place out (sym (ap (λ b. b || in_runs runs place) off) ∙ e)
+    taken_out runs zero after row (omega arith) (omega arith) (λ k other low high. own (suc k) other (omega arith) (omega arith)) place out (sym (ap (λ b. b || in_runs runs place) off) ∙ e)
 taken_out (run ∷ runs) (suc begun) zero row order inside own place out e = absurd (omega (arith, order))
-taken_out (run ∷ runs) (suc begun) (suc after) row order inside own place out e = by (is_in run place) e (taken_out runs begun after row (omega (arith, order)) (omega (arith, inside)) (λ k other low high. own (suc k) other (omega (arith, low)) (omega (arith, high))) place out)
-  where
-    by : (b : Bool) → (b || in_runs runs place) ≡ true → (in_runs runs place ≡ true → (in_runs (take begun runs) place || in_runs (drop after runs) place) ≡ true) → ((b || in_runs (take begun runs) place) || in_runs (drop after runs) place) ≡ true
-    by true e rest = refl
-    by false e rest = rest e
+taken_out (run ∷ runs) (suc begun) (suc after) row order inside own place out e =
+    let rest = taken_out runs begun after row (omega arith) (omega arith) (λ k other low high. own (suc k) other (omega arith) (omega arith)) place out in
+    grind (arith, rest)
 
 -- others come in their place
 pub found_again : (runs some more : List Run) (begun after row : ℕ) → begun ≤ after → after ≤ length runs → ((k : ℕ) (other : Run) → begun ≤ k → k < after → (get_or runs k other).row ≡ row)
     → KeepsRuns (take begun runs) some → more ≡ some ++ drop after runs → KeepsOthers row runs more
-found_again runs some more begun after row order inside own keeps is place out e =
-    ap (λ runs. in_runs runs place) is ∙ in_both some (drop after runs) place
-    ∙ by (in_runs (take begun runs) place) (in_runs (drop after runs) place) (keeps place) (taken_out runs begun after row order inside own place out e)
-  where
-    by : (a b : Bool) → (a ≡ true → in_runs some place ≡ true) → (a || b) ≡ true → (in_runs some place || b) ≡ true
-    by true b into e = or_left (in_runs some place) b (into refl)
-    by false b into e = or_right (in_runs some place) b e
+found_again runs some more begun after row order inside own keeps is place out e = rw (is, in_both some (drop after runs) place) (grind (arith, keeps place, taken_out runs begun after row order inside own place out e))
 
 -- ---- runs that are cut off
 
 -- one run more
 pub one_more : (some more : List Run) (run : Run) (place : ℕ × ℕ) → more ≡ some ++ run ∷ [] → is_in run place ≡ true → in_runs more place ≡ true
-one_more some more run place is e =
-    ap (λ runs. in_runs runs place) is ∙ in_both some (run ∷ []) place ∙ or_right (in_runs some place) (is_in run place || false) (or_left (is_in run place) false e)
+one_more some more run place is e = rw (is, in_both some (run ∷ []) place) (grind arith)
 
 pub same_row : (old mid new : Cut) → IsSameRow old mid → IsSameRow mid new → IsSameRow old new
 same_row old mid new one other = record { scene = other.scene ∙ one.scene; line = other.line ∙ one.line; last = other.last ∙ one.last }
@@ -129,13 +79,4 @@ same_row old mid new one other = record { scene = other.scene ∙ one.scene; lin
 pub cut_more : (start old new : Cut) (run : Run) (some more : List Run) → IsSameRow start old → CutsOff old new run → more ≡ some ++ run ∷ []
     → ((c : ℕ) → start.column ≤ c → c < old.column → differs_at start c ≡ true → in_runs some (start.line.row, c) ≡ true)
     → (c : ℕ) → start.column ≤ c → c < new.column → differs_at start c ≡ true → in_runs more (start.line.row, c) ≡ true
-cut_more start old new run some more same cuts is has c low high differs = by (ltb c old.column) refl
-  where
-    by : (b : Bool) → ltb c old.column ≡ b → in_runs more (start.line.row, c) ≡ true
-    by true at = let under : c < old.column = grind (arith, nat_tests) in in_more some (run ∷ []) more is (start.line.row, c) (has c low under differs)
-    by false at =
-        let over : old.column ≤ c = grind (arith, nat_tests) in
-        let there : differs_at old c ≡ true = (λ i. row_differs (same.scene i).painter (same.scene i).picture.now (option_map (λ looks. looks.now) (same.line i).before) ((same.line i).row, c)) ∙ differs in
-        one_more some more run (start.line.row, c) is (ap (λ line. is_in run (line.row, c)) (sym same.line) ∙ cuts.has c over high there)
-
--- ---- runs of rows that a shift does not change
+cut_more start old new run some more same cuts is has c low high differs = grind (arith, nat_tests, in_more, one_more)

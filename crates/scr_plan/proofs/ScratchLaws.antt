@@ -1,86 +1,92 @@
--- Scratch shows the picture from every state.
-use Rattle.std.proofs.Common.{◌≡◌, ℕ, ◌+◌, ◌<◌, ◌||◌, Bool, true, false, refl, sym, ◌∙◌, ap, arith, List, [], ◌∷◌, ◌++◌, get_or, length, Option, Some, None, IfSome, map, zero, suc, if◌then◌else◌}
-use Rattle.std.specs.List.{AllByRecursion, flat_map, range_with_len}
+-- Scratch shows the picture from every state, has few operations, and takes only those that the profile has.
+use Rattle.std.proofs.Common.{◌≡◌, ℕ, ◌+◌, ◌<◌, ◌&&◌, ◌||◌, not, Bool, true, false, refl, sym, ◌∙◌, ap, arith, List, [], ◌∷◌, ◌++◌, get_or, length, Option, Some, None, IfSome, map, zero, suc, if◌then◌else◌, ◌*◌, ◌≤◌, subst}
+use Rattle.std.specs.List.{AllByRecursion, flat_map, range_with_len, All}
 use Rattle.std.proofs.Math.Bool.{or-true}
 use Rattle.std.proofs.Math.ListN.{get_or-map}
 use Rattle.std.proofs.lemmas.Bool.Decides.{nat_tests}
-use Rattle.std.proofs.lemmas.List.{length-map}
+use Rattle.std.proofs.lemmas.List.{length-map, length-append}
 use Rattle.scr_cells.specs.CellViews.{CellView, blank_cell}
 use Rattle.scr_cells.specs.Grids.{GridLaws, IsGrid, grid_at, grid_of, grid_row, grid_with, is_in_run}
-use Rattle.scr_cells.specs.LookViews.{LookView, blank, negative_grid}
+use Rattle.scr_cells.specs.LookViews.{LookView, blank}
 use Rattle.scr_cells.specs.PictureViews.{PictureView, IsPicture, IsPlace}
 use Rattle.scr_term.specs.declared.operations.operation.Op.{Op}
-use Rattle.scr_term.specs.declared.operations.operation.Op.TheVariants.{Clear}
+use Rattle.scr_term.specs.declared.operations.operation.Op.TheVariants.{Clear, Put, Reset}
 use Rattle.scr_term.specs.declared.operations.operation.Spot.TheVariants.{At}
 use Rattle.scr_term.specs.Operations.Ecma48.{Ecma48Laws}
-use Rattle.scr_term.specs.Operations.Laws.{BytesActAsTheirOperations, HasLaws, ProfilesHave, RunLaws}
+use Rattle.scr_term.specs.Operations.Laws.{BytesActAsTheirOperations, HasLaws, ProfilesHave, RunLaws, BlankLaws}
 use Rattle.scr_term.specs.Operations.Painted.{painted, seen_on}
-use Rattle.scr_term.specs.Operations.Profiles.{ProfileView, IsProfile, abilities}
+use Rattle.scr_term.specs.Operations.Profiles.{ProfileView, IsProfile, abilities, is_there}
 use Rattle.scr_term.specs.Operations.States.{TerminalState, IsShownPen, IsState, blank_state, spot_after}
 use Rattle.scr_term.specs.Operations.Steps.{runs}
-use Rattle.scr_plan.proofs.PlaceLaws.{at_place, move_run, one_run, plain, resets_run, then_runs}
-use Rattle.scr_plan.proofs.PlacesLaws.{among_places, is_among, is_here, places_inside}
-use Rattle.scr_plan.specs.Scratch.{look_at, paints_place, paints_places, places, places_cursor, resets, scratch_of, PlaceIsPainted, ScratchBytesShow, ScratchShows}
+use Rattle.scr_plan.proofs.PlaceLaws.{at_place, move_run, plain, resets_run, then_runs}
+use Rattle.scr_plan.proofs.PartLaws.{among_places, is_among, is_here, places_inside}
+use Rattle.scr_plan.specs.Scratch.{Fits, RunsToShow, look_at, paints_place, paints_places, places, places_cursor, resets, PlaceIsPainted, ScratchBytesShow, ScratchShows, ScratchIsBounded, enter, goes, renders, row_places, sets_background, sets_foreground, scratch_of}
+use Rattle.std.proofs.lemmas.List.FromFn.{length-range_with_len}
+use Rattle.std.proofs.Math.Nat.{mul-le-mul_right}
+use Rattle.scr_cells.specs.Attributes.{attributes_of}
+use Rattle.scr_cells.specs.PenViews.{PenView}
+use Rattle.scr_term.specs.declared.operations.capability.Capability.TheVariants.{Sgr0}
+use Rattle.scr_term.specs.Operations.Texts.{has}
 
--- ---- every place is painted
+-- ---- places that show what is seen of the picture
 
--- what a place shows: its look where it is painted, else what it showed
-abbrev pub shown_after : Bool → LookView → LookView → LookView
-shown_after here look before = if here then look else before
+-- every place that does not wait does
+pub record IsRight (profile : ProfileView) (picture : PictureView) (waits : ℕ × ℕ → Bool) (now : TerminalState) : Type 0 where
+  pub state : IsState (abilities profile) now
+  pub right : (r c : ℕ) → r < profile.rows → c < profile.columns → waits (r, c) ≡ false → grid_at blank now.grid r c ≡ look_at profile picture (r, c)
+
+-- operations lead to such a state
+pub record Rights (profile : ProfileView) (picture : PictureView) (waits : ℕ × ℕ → Bool) (old : TerminalState) (ops : List Op) : Type 0 where
+  pub new : TerminalState
+  pub run : runs profile old ops ≡ Some new
+  pub is : IsRight profile picture waits new
+
+-- one run and then another
+pub then_rights : RunLaws → (profile : ProfileView) (picture : PictureView) (waits : ℕ × ℕ → Bool) (old next : TerminalState) (xs ys : List Op) → runs profile old xs ≡ Some next → Rights profile picture waits next ys → Rights profile picture waits old (xs ++ ys)
+then_rights laws profile picture waits old next xs ys run rest = record { new = rest.new; run = then_runs laws profile old next rest.new xs ys run rest.run; is = rest.is }
+
+-- places that do not wait are among those that did not
+pub fewer_right : (profile : ProfileView) (picture : PictureView) (waits less : ℕ × ℕ → Bool) (old : TerminalState) (ops : List Op) → ((r c : ℕ) → r < profile.rows → c < profile.columns → less (r, c) ≡ false → waits (r, c) ≡ false) → Rights profile picture waits old ops → Rights profile picture less old ops
+fewer_right profile picture waits less old ops fewer rights = record { new = rights.new; run = rights.run; is = record { state = rights.is.state; right = λ r c high wide e. rights.is.right r c high wide (fewer r c high wide e) } }
+
+-- a place that waits no more, since what covers it is painted
+pub covered : (here waits covers : Bool) (new old look : LookView) → (waits && not covers) ≡ false → (waits ≡ false → old ≡ look) → (covers ≡ true → here ≡ true) → (here ≡ true → new ≡ look) → (if here then new else old) ≡ look
+covered here waits covers new old look e was inside shown = grind arith
+
+-- ---- places are painted
 
 -- one place of a grid is changed
 pub place_changed : GridLaws LookView → (rows columns : ℕ) (grid : List (List LookView)) → IsGrid rows columns grid → (place : ℕ × ℕ) → IsPlace rows columns place → (look : LookView)
     → (r c : ℕ) → r < rows → c < columns
-    → grid_at blank (grid_with grid place.0 place.1 look) r c ≡ shown_after (is_here r c place) look (grid_at blank grid r c)
+    → grid_at blank (grid_with grid place.0 place.1 look) r c ≡ (if is_here r c place then look else grid_at blank grid r c)
 place_changed grids rows columns grid is place inside look r c high wide =
     let same : is_in_run place.0 place.1 (place.1 + 1) r c ≡ is_here r c place = grind (arith, nat_tests) in
     ap (λ g. grid_at blank g r c) (grids.place blank rows columns grid place.0 place.1 look is inside.0 inside.1)
     ∙ grids.formula blank rows columns (λ r c. if is_in_run place.0 place.1 (place.1 + 1) r c then look else grid_at blank grid r c) r c high wide
-    ∙ ap (λ here. shown_after here look (grid_at blank grid r c)) same
+    ∙ ap (λ here. if here then look else grid_at blank grid r c) same
 
--- the looks of a picture, by row and column
-abbrev pub looks : ProfileView → PictureView → ℕ → ℕ → LookView
-looks profile picture r c = look_at profile picture (r, c)
+pub own_look : (profile : ProfileView) (picture : PictureView) (place : ℕ × ℕ) (r c : ℕ) → is_here r c place ≡ true → look_at profile picture place ≡ look_at profile picture (r, c)
+own_look profile picture place r c here = grind (arith, nat_tests)
 
--- these places are painted, and no others
-pub record PaintsEach (profile : ProfileView) (picture : PictureView) (old : TerminalState) (list : List (ℕ × ℕ)) : Type 0 where
-  pub new : TerminalState
-  pub run : runs profile old (flat_map (paints_place profile picture) list) ≡ Some new
-  pub state : IsState (abilities profile) new
-  pub shows : (r c : ℕ) → r < profile.rows → c < profile.columns
-      → grid_at blank new.grid r c ≡ shown_after (is_among r c list) (looks profile picture r c) (grid_at blank old.grid r c)
-
--- painted among the first or among the others
-either_painted : (first : Bool) (more : Bool) (own look before : LookView) → (first ≡ true → own ≡ look)
-    → shown_after more look (shown_after first own before) ≡ shown_after (first || more) look before
-either_painted true true own look before same = refl
-either_painted true false own look before same = same refl
-either_painted false more own look before same = refl
-
-own_look : (profile : ProfileView) (picture : PictureView) (place : ℕ × ℕ) (r c : ℕ) → is_here r c place ≡ true → look_at profile picture place ≡ looks profile picture r c
-own_look profile picture place r c here =
-    let row : place.0 ≡ r = grind (arith, nat_tests) in
-    let column : place.1 ≡ c = grind (arith, nat_tests) in
-    λ i. look_at profile picture (row i, column i)
+neither : (waits first others : Bool) → (waits && not (first || others)) ≡ false → ((waits && not first) && not others) ≡ false
+neither waits first others e = grind arith
 
 pub each_painted : RunLaws → PlaceIsPainted → GridLaws LookView → (profile : ProfileView) → IsProfile profile → (picture : PictureView) → IsPicture picture
-    → (list : List (ℕ × ℕ)) → AllByRecursion (IsPlace profile.rows profile.columns) list → (old : TerminalState) → IsState (abilities profile) old
-    → PaintsEach profile picture old list
-each_painted laws place_law grids profile p picture k [] inside old s = record { new = old; run = refl; state = s; shows = λ r c high wide. refl }
-each_painted laws place_law grids profile p picture k (place ∷ list) inside old s =
+    → (list : List (ℕ × ℕ)) → AllByRecursion (IsPlace profile.rows profile.columns) list → (waits : ℕ × ℕ → Bool) (old : TerminalState) → IsRight profile picture waits old
+    → Rights profile picture (λ place. waits place && not (is_among place.0 place.1 list)) old (flat_map (paints_place profile picture) list)
+each_painted laws place_law grids profile p picture k [] inside waits old before = record { new = old; run = refl; is = record { state = before.state; right = λ r c high wide e. before.right r c high wide (grind arith) } }
+each_painted laws place_law grids profile p picture k (place ∷ list) inside waits old before =
     let look : LookView = look_at profile picture place in
     let next : TerminalState = record { grid = grid_with old.grid place.0 place.1 look; spot = spot_after profile.columns place.0 place.1; pen = look.pen } in
-    let run : runs profile old (paints_place profile picture place) ≡ Some next = place_law profile p picture k place inside.0 old s in
-    let rest : PaintsEach profile picture next list = each_painted laws place_law grids profile p picture k list inside.1 next (laws.kept profile p old next s (paints_place profile picture place) run) in
-    record {
-      new = rest.new;
-      run = then_runs laws profile old next rest.new (paints_place profile picture place) (flat_map (paints_place profile picture) list) run rest.run;
-      state = rest.state;
-      shows = λ r c high wide.
-          rest.shows r c high wide
-          ∙ ap (shown_after (is_among r c list) (looks profile picture r c)) (place_changed grids profile.rows profile.columns old.grid s.whole place inside.0 look r c high wide)
-          ∙ either_painted (is_here r c place) (is_among r c list) look (looks profile picture r c) (grid_at blank old.grid r c) (own_look profile picture place r c);
-    }
+    let run : runs profile old (paints_place profile picture place) ≡ Some next = place_law profile p picture k place inside.0 old before.state in
+    let now : IsRight profile picture (λ other. waits other && not (is_here other.0 other.1 place)) next = record {
+      state = laws.kept profile p old next before.state (paints_place profile picture place) run;
+      right = λ r c high wide e.
+          place_changed grids profile.rows profile.columns old.grid before.state.whole place inside.0 look r c high wide
+          ∙ covered (is_here r c place) (waits (r, c)) (is_here r c place) look _ _ e (before.right r c high wide) (λ here. here) (own_look profile picture place r c);
+    } in
+    fewer_right profile picture _ (λ other. waits other && not (is_among other.0 other.1 (place ∷ list))) old (paints_place profile picture place ++ flat_map (paints_place profile picture) list) (λ r c high wide e. neither (waits (r, c)) (is_here r c place) (is_among r c list) e)
+    (then_rights laws profile picture _ old next (paints_place profile picture place) (flat_map (paints_place profile picture) list) run (each_painted laws place_law grids profile p picture k list inside.1 _ next now))
 
 -- ---- the grid is then the painted picture
 
@@ -89,9 +95,7 @@ map_same f g zero a same = refl
 map_same f g (suc n) a same = λ i. same a (omega arith) i ∷ map_same f g n (a + 1) (λ k below. same k (omega (arith, below))) i
 
 pub grid_same : (rows columns : ℕ) (f g : ℕ → ℕ → LookView) → ((r c : ℕ) → r < rows → c < columns → f r c ≡ g r c) → grid_of rows columns f ≡ grid_of rows columns g
-grid_same rows columns f g same =
-    map_same (λ r. map (f r) (range_with_len 0 columns)) (λ r. map (g r) (range_with_len 0 columns)) rows 0
-    (λ r high. map_same (f r) (g r) columns 0 (λ c wide. same r c (omega (arith, high)) (omega (arith, wide))))
+grid_same rows columns f g same = grind (arith, nat_tests, map_same)
 
 pub map_grid_at : (f : CellView → LookView) (lines : List (List CellView)) (r c : ℕ) → grid_at (f blank_cell) (map (map f) lines) r c ≡ f (grid_at blank_cell lines r c)
 map_grid_at f lines r c = ap (λ line. get_or line c (f blank_cell)) (get_or-map (map f) lines r []) ∙ get_or-map f (grid_row lines r) c blank_cell
@@ -104,7 +108,7 @@ map_is_grid f rows columns lines is = record {
 
 pub grid_is_painted : GridLaws LookView → (profile : ProfileView) (picture : PictureView) → IsGrid profile.rows profile.columns picture.lines
     → (grid : List (List LookView)) → IsGrid profile.rows profile.columns grid
-    → ((r c : ℕ) → r < profile.rows → c < profile.columns → grid_at blank grid r c ≡ looks profile picture r c)
+    → ((r c : ℕ) → r < profile.rows → c < profile.columns → grid_at blank grid r c ≡ look_at profile picture (r, c))
     → grid ≡ painted (abilities profile) picture
 grid_is_painted grids profile picture lines grid is shows =
     let f : CellView → LookView = seen_on (abilities profile) picture.pairs in
@@ -122,50 +126,111 @@ cursor_placed profile can None inside old = (plain old, refl, refl, tt)
 cursor_placed profile can (Some place) inside old =
     (at_place (plain old) place, move_run profile can (plain old) place inside (or-true profile.msgr), refl, refl)
 
--- no attribute and default colours, and then a blank screen
-pub cleared_run : RunLaws → (profile : ProfileView) → HasLaws profile → (old : TerminalState) → IsShownPen (abilities profile) old.pen
-    → runs profile old (resets profile ++ Clear ∷ []) ≡ Some (blank_state profile.rows profile.columns)
-cleared_run laws profile can old shown =
-    let blanks : TerminalState = blank_state profile.rows profile.columns in
-    then_runs laws profile old (plain old) blanks (resets profile) (Clear ∷ []) (resets_run profile can old shown)
-    (one_run profile (plain old) blanks Clear can.clear refl)
-
-pub scratch_shows : RunLaws → ProfilesHave → PlaceIsPainted → GridLaws LookView → ScratchShows
-scratch_shows laws have place_law grids profile p picture k fits old s =
-    let can : HasLaws profile = have profile p in
-    let cleared : TerminalState = blank_state profile.rows profile.columns in
-    let begins : List Op = resets profile ++ Clear ∷ [] in
-    let begun : runs profile old begins ≡ Some cleared = cleared_run laws profile can old s.pen in
-    let cleared_is : IsState (abilities profile) cleared = laws.kept profile p old cleared s begins begun in
-    let inside : AllByRecursion (IsPlace profile.rows profile.columns) (places picture.rows picture.columns) =
-    rw (fits.rows, fits.columns) (places_inside profile.rows profile.columns) in
-    let each = each_painted laws place_law grids profile p picture k (places picture.rows picture.columns) inside cleared cleared_is in
-    let shows : (r c : ℕ) → r < profile.rows → c < profile.columns → grid_at blank each.new.grid r c ≡ looks profile picture r c = λ r c high wide.
-    each.shows r c high wide
-    ∙ ap (λ here. shown_after here (looks profile picture r c) (grid_at blank cleared.grid r c)) (among_places picture.rows picture.columns r c (omega (arith, high, fits.rows)) (omega (arith, wide, fits.columns))) in
+-- what follows operations after which every place is right
+pub painted_shows : RunLaws → GridLaws LookView → (profile : ProfileView) → IsProfile profile → HasLaws profile → (picture : PictureView) → IsPicture picture → Fits profile picture
+    → (old : TerminalState) → IsState (abilities profile) old → (ops : List Op) → Rights profile picture (λ _. false) old ops → RunsToShow profile old (ops ++ resets profile ++ places_cursor picture.wish) picture
+painted_shows laws grids profile p can picture k fits old state ops painted =
     let lines : IsGrid profile.rows profile.columns picture.lines = rw (← fits.rows, ← fits.columns) k.grid in
-    let wish : IfSome picture.wish (IsPlace profile.rows profile.columns) = rw (← fits.rows, ← fits.columns) k.wish in
-    let last = cursor_placed profile can picture.wish wish each.new in
-    let run : runs profile old (scratch_of profile picture) ≡ Some last.0 =
-    then_runs laws profile old (plain each.new) last.0 (begins ++ paints_places profile picture ++ resets profile) (places_cursor picture.wish)
-    (then_runs laws profile old each.new (plain each.new) (begins ++ paints_places profile picture) (resets profile)
-    (then_runs laws profile old cleared each.new begins (paints_places profile picture) begun each.run)
-    (resets_run profile can each.new each.state.pen))
-    last.1 in
+    let last = cursor_placed profile can picture.wish (rw (← fits.rows, ← fits.columns) k.wish) painted.new in
+    let run : runs profile old (ops ++ resets profile ++ places_cursor picture.wish) ≡ Some last.0 =
+    then_runs laws profile old (plain painted.new) last.0 (ops ++ resets profile) (places_cursor picture.wish)
+    (then_runs laws profile old painted.new (plain painted.new) ops (resets profile) painted.run (resets_run profile can painted.new painted.is.state.pen)) last.1 in
     record {
       new = last.0;
       run = run;
-      shows = record { grid = last.2 ∙ grid_is_painted grids profile picture lines each.new.grid each.state.whole shows; spot = last.3 };
-      state = laws.kept profile p old last.0 s (scratch_of profile picture) run;
+      shows = record { grid = last.2 ∙ grid_is_painted grids profile picture lines painted.new.grid painted.is.state.whole (λ r c high wide. painted.is.right r c high wide refl); spot = last.3 };
+      state = laws.kept profile p old last.0 state (ops ++ resets profile ++ places_cursor picture.wish) run;
     }
+
+-- no attribute and default colours, and then a blank screen
+pub cleared_run : RunLaws → (profile : ProfileView) → HasLaws profile → (old : TerminalState) → IsShownPen (abilities profile) old.pen
+    → runs profile old (resets profile ++ Clear ∷ []) ≡ Some (blank_state profile.rows profile.columns)
+cleared_run laws profile can old shown = grind (arith, nat_tests)
+
+pub all_inside : (profile : ProfileView) (picture : PictureView) → Fits profile picture → AllByRecursion (IsPlace profile.rows profile.columns) (places picture.rows picture.columns)
+all_inside profile picture fits = rw (fits.rows, fits.columns) (places_inside profile.rows profile.columns)
+
+pub scratch_shows : RunLaws → ProfilesHave → PlaceIsPainted → GridLaws LookView → ScratchShows
+scratch_shows laws have place_law grids profile p picture k fits old s =
+    let blanks : TerminalState = blank_state profile.rows profile.columns in
+    let begins : List Op = resets profile ++ Clear ∷ [] in
+    let begun = cleared_run laws profile (have profile p) old s.pen in
+    let before : IsRight profile picture (λ _. true) blanks = record { state = laws.kept profile p old blanks s begins begun; right = λ r c high wide e. (cc) } in
+    let each = each_painted laws place_law grids profile p picture k (places picture.rows picture.columns) (all_inside profile picture fits) (λ _. true) blanks before in
+    painted_shows laws grids profile p (have profile p) picture k fits old s (begins ++ paints_places profile picture)
+    (fewer_right profile picture _ (λ _. false) old (begins ++ paints_places profile picture) (λ r c high wide e. ap not (among_places picture.rows picture.columns r c (omega (arith, high, fits.rows)) (omega (arith, wide, fits.columns))))
+    (then_rights laws profile picture _ old blanks begins (paints_places profile picture) begun each))
 
 -- the bytes of scratch, by the law of the operations and that of their bytes
 pub scratch_bytes_show : ScratchShows → Ecma48Laws → BytesActAsTheirOperations → ScratchBytesShow
-scratch_bytes_show law bundled bytes_law profile e picture k fits old s =
-    let shows = law profile (bundled.is_profile profile e) picture k fits old s in
-    record {
-      new = shows.new;
-      leads = bytes_law profile e old shows.new s (scratch_of profile picture) shows.run;
-      shows = record { grid = ap negative_grid shows.shows.grid; spot = shows.shows.spot };
-      state = shows.state;
-    }
+scratch_bytes_show law bundled bytes_law profile e picture k fits old s = grind (arith, nat_tests)
+
+one_or_none : {A : Type 0} → (b : Bool) (x : A) → length (if b then x ∷ [] else []) ≤ 1
+one_or_none b x = grind (arith, nat_tests)
+
+resets_few : (profile : ProfileView) → length (resets profile) ≤ 1
+resets_few profile = one_or_none (is_there profile Sgr0) Reset
+
+foreground_few : (colour : Option ℕ) → length (sets_foreground colour) ≤ 1
+foreground_few colour = grind (arith, nat_tests)
+
+background_few : (colour : Option ℕ) → length (sets_background colour) ≤ 1
+background_few colour = grind (arith, nat_tests)
+
+cursor_few : (wish : Option (ℕ × ℕ)) → length (places_cursor wish) ≤ 1
+cursor_few wish = grind (arith, nat_tests)
+
+entered_few : (set : ℕ) → length (map enter (attributes_of set)) ≤ 7
+entered_few set = grind (arith, nat_tests)
+
+renders_few : (pen : PenView) → length (renders pen) ≤ 9
+renders_few pen = grind (arith, nat_tests, entered_few, foreground_few, background_few, length-append)
+
+goes_few : (profile : ProfileView) (place : ℕ × ℕ) → length (goes profile place) ≤ 2
+goes_few profile place = grind (arith, nat_tests)
+
+place_few : (profile : ProfileView) (picture : PictureView) (place : ℕ × ℕ) → length (paints_place profile picture place) ≤ 12
+place_few profile picture place =
+    let look : LookView = look_at profile picture place in
+    let put : List Op = Put look.byte ∷ [] in
+    omega (arith, goes_few profile place, renders_few look.pen, length-append (goes profile place ++ renders look.pen) put, length-append (goes profile place) (renders look.pen))
+
+-- so many for each
+each_few : {A B : Type 0} → (f : A → List B) (k : ℕ) (xs : List A) → ((x : A) → length (f x) ≤ k) → length (flat_map f xs) ≤ length xs * k
+each_few f k [] h = omega arith
+each_few f k (x ∷ xs) h = grind (arith, nat_tests, each_few f k xs h, length-append)
+
+row_length : (columns r : ℕ) → length (row_places columns r) ≡ columns
+row_length columns r = length-map (range_with_len 0 columns) (λ c. (r, c)) ∙ length-range_with_len 0 columns
+
+places_few : (rows columns : ℕ) → length (places rows columns) ≤ rows * columns
+places_few rows columns =
+    let all : length (places rows columns) ≤ length (range_with_len 0 rows) * columns = each_few (row_places columns) columns (range_with_len 0 rows) (λ r. omega (arith, row_length columns r)) in
+    subst (λ n. length (places rows columns) ≤ n * columns) (length-range_with_len 0 rows) all
+
+pub bounded : ScratchIsBounded
+bounded profile picture =
+    let all : List (ℕ × ℕ) = places picture.rows picture.columns in
+    let painted : length (paints_places profile picture) ≤ length all * 12 = each_few (paints_place profile picture) 12 all (place_few profile picture) in
+    let few : length all * 12 ≤ picture.rows * picture.columns * 12 = mul-le-mul_right 12 (places_few picture.rows picture.columns) in
+    let start : List Op = resets profile ++ Clear ∷ [] in
+    let middle : List Op = start ++ paints_places profile picture in
+    let behind : List Op = middle ++ resets profile in
+    omega (
+      arith,
+      painted,
+      few,
+      resets_few profile,
+      cursor_few picture.wish,
+      length-append (resets profile) (Clear ∷ []),
+      length-append start (paints_places profile picture),
+      length-append middle (resets profile),
+      length-append behind (places_cursor picture.wish),
+    )
+
+pub scratch_had : ScratchShows → RunLaws → BlankLaws → (profile : ProfileView) → IsProfile profile → (picture : PictureView) → IsPicture picture → Fits profile picture
+    → All (λ op. has profile op ≡ true) (scratch_of profile picture)
+scratch_had scratch_law runs blanks profile is picture p fits =
+    let blank : TerminalState = blank_state profile.rows profile.columns in
+    let shows = scratch_law profile is picture p fits blank (blanks.state profile is) in
+    runs.had profile blank shows.new (scratch_of profile picture) shows.run

@@ -1,7 +1,6 @@
 -- What shifts of rows send leads to the grid whose rows they move.
-use Rattle.std.proofs.Common.{◌≡◌, ℕ, ◌+◌, ◌-◌, ◌<◌, ◌≤◌, ◌==◌, ◌&&◌, ◌⊎◌, inl, inr, nat_le, leb, ltb, true, false, refl, sym, ◌∙◌, ap, subst, arith, List, [], ◌∷◌, ◌++◌, length, Some, None, if◌then◌else◌}
+use Rattle.std.proofs.Common.{◌≡◌, ℕ, ◌+◌, ◌-◌, ◌<◌, ◌≤◌, ◌==◌, ◌&&◌, nat_le, true, false, refl, sym, ◌∙◌, ap, subst, arith, List, [], ◌∷◌, ◌++◌, length, Some, None, if◌then◌else◌}
 use Rattle.std.proofs.lemmas.Bool.Decides.{nat_tests}
-use Rattle.std.proofs.lemmas.List.{append-nil}
 use Rattle.scr_cells.specs.Grids.{GridLaws, IsGrid, grid_at, grid_of, rows_down, rows_up}
 use Rattle.scr_cells.specs.LookViews.{LookView, blank}
 use Rattle.scr_cells.specs.PenViews.{is_plain_pen}
@@ -13,10 +12,11 @@ use Rattle.scr_term.specs.Operations.Profiles.{ProfileView, IsProfile}
 use Rattle.scr_term.specs.Operations.States.{TerminalState, from_place, lines_deleted, lines_inserted, shifted}
 use Rattle.scr_term.specs.Operations.Steps.{act, runs}
 use Rattle.scr_term.specs.Operations.Texts.{all_bytes, has}
+use Rattle.scr_plan.proofs.DraftLaws.{begun_aimed}
 use Rattle.scr_plan.proofs.JoinedPriceLaws.{price, price_is}
 use Rattle.scr_plan.proofs.PlaceLaws.{one_run, then_runs}
 use Rattle.scr_plan.proofs.ScratchLaws.{grid_same}
-use Rattle.scr_plan.specs.Code.Drafts.{Aim, IsAdded, IsAimed, KeepsEvery}
+use Rattle.scr_plan.specs.Code.Drafts.{Aim, IsAdded, KeepsEvery}
 use Rattle.scr_plan.specs.Code.Joinings.{counted_up}
 use Rattle.scr_plan.specs.Code.Moves.{IsSent, IsShift, Sends, shifted_at}
 use Rattle.scr_prices.specs.declared.shifts.Shift.{Shift}
@@ -28,20 +28,8 @@ pub sent_kept : RunLaws → GridLaws LookView → (profile : ProfileView) → (o
 sent_kept laws grids profile old new keeps start grid sent =
     let aim : Aim = record { rows = profile.rows; columns = profile.columns; look = λ place. grid_at blank grid place.0 place.1 } in
     let paid : ℕ = length (all_bytes profile old.ops.items) in
-    let is : IsAimed profile aim paid old.ops.items sent.now (λ _. false) new =
-    keeps aim (λ _. false) paid old.ops.items sent.now (record {
-      keeps = sent.keeps;
-      own = [];
-      ops = sym (append-nil old.ops.items);
-      now = sent.now;
-      run = refl;
-      calm = refl;
-      state = sent.state;
-      bytes = sent.bytes ∙ ap counted_up (omega arith);
-      spot = sent.spot;
-      pen = sent.pen;
-      shows = λ r c high wide e. ap (λ g. grid_at blank g r c) sent.grid_is;
-    }) in
+    let is = keeps aim (λ _. false) paid old.ops.items sent.now
+    (begun_aimed profile aim paid old.ops.items sent.now (λ _. false) old sent.keeps refl sent.state sent.bytes sent.spot sent.pen (λ r c high wide e. ap (λ g. grid_at blank g r c) sent.grid_is)) in
     let whole : IsGrid profile.rows profile.columns grid = subst (IsGrid profile.rows profile.columns) sent.grid_is sent.state.whole in
     record {
       keeps = is.keeps;
@@ -108,8 +96,7 @@ inserted laws grids profile p row count fits had old mid new keeps here plain ad
 -- a move that is the same in every place is the same
 pub sent_alike : (profile : ProfileView) (f g : (ℕ → ℕ → LookView) → ℕ → ℕ → LookView) (old new : Draft)
     → ((at : ℕ → ℕ → LookView) (r c : ℕ) → r < profile.rows → c < profile.columns → f at r c ≡ g at r c) → Sends profile f old new → Sends profile g old new
-sent_alike profile f g old new same sends start grid sent =
-    subst (λ lines. IsSent profile start lines new) (grid_same profile.rows profile.columns (f (grid_at blank grid)) (g (grid_at blank grid)) (same (grid_at blank grid))) (sends start grid sent)
+sent_alike profile f g old new same sends start grid sent = grind (arith, nat_tests, grid_same)
 
 pub sent_then : GridLaws LookView → (profile : ProfileView) (f g : (ℕ → ℕ → LookView) → ℕ → ℕ → LookView) (old mid new : Draft) → Sends profile f old mid → Sends profile g mid new
     → (start : TerminalState) (grid : List (List LookView)) → IsSent profile start grid old
@@ -123,59 +110,15 @@ sent_nothing grids profile draft start grid sent =
 
 -- ---- two moves of rows are one of a block
 
-before_or_not : (a b : ℕ) → (a < b) ⊎ (b ≤ a)
-before_or_not a b = grind arith
-
--- rows that move up, where they come from, what becomes blank, and what stays
-up_from : (first end n : ℕ) (at : ℕ → ℕ → LookView) (r c : ℕ) → first ≤ r → r + n < end → rows_up first end n blank at r c ≡ at (r + n) c
-up_from first end n at r c low high = let a : (leb first r && ltb r end) ≡ true = grind (arith, nat_tests) in let b : ltb (r + n) end ≡ true = grind (arith, nat_tests) in rw (a, b) refl
-
-up_blank : (first end n : ℕ) (at : ℕ → ℕ → LookView) (r c : ℕ) → first ≤ r → r < end → end ≤ r + n → rows_up first end n blank at r c ≡ blank
-up_blank first end n at r c low high off = let a : (leb first r && ltb r end) ≡ true = grind (arith, nat_tests) in let b : ltb (r + n) end ≡ false = grind (arith, nat_tests) in rw (a, b) refl
-
-up_other : (first end n : ℕ) (at : ℕ → ℕ → LookView) (r c : ℕ) → (r < first) ⊎ (end ≤ r) → rows_up first end n blank at r c ≡ at r c
-up_other first end n at r c (inl low) = let a : (leb first r && ltb r end) ≡ false = grind (arith, nat_tests) in rw a refl
-up_other first end n at r c (inr high) = let a : (leb first r && ltb r end) ≡ false = grind (arith, nat_tests) in rw a refl
-
-down_from : (first end n : ℕ) (at : ℕ → ℕ → LookView) (r c : ℕ) → first + n ≤ r → r < end → rows_down first end n blank at r c ≡ at (r - n) c
-down_from first end n at r c low high = let a : (leb first r && ltb r end) ≡ true = grind (arith, nat_tests) in let b : leb (first + n) r ≡ true = grind (arith, nat_tests) in rw (a, b) refl
-
-down_blank : (first end n : ℕ) (at : ℕ → ℕ → LookView) (r c : ℕ) → first ≤ r → r < end → r < first + n → rows_down first end n blank at r c ≡ blank
-down_blank first end n at r c low high off = let a : (leb first r && ltb r end) ≡ true = grind (arith, nat_tests) in let b : leb (first + n) r ≡ false = grind (arith, nat_tests) in rw (a, b) refl
-
-down_other : (first end n : ℕ) (at : ℕ → ℕ → LookView) (r c : ℕ) → (r < first) ⊎ (end ≤ r) → rows_down first end n blank at r c ≡ at r c
-down_other first end n at r c (inl low) = let a : (leb first r && ltb r end) ≡ false = grind (arith, nat_tests) in rw a refl
-down_other first end n at r c (inr high) = let a : (leb first r && ltb r end) ≡ false = grind (arith, nat_tests) in rw a refl
-
 -- lines deleted at the block's top, and inserted above what is below it
 pub up_twice : (rows top end n : ℕ) (at mid : ℕ → ℕ → LookView) → top + n < end → end ≤ rows → (columns : ℕ) → ((r c : ℕ) → r < rows → c < columns → mid r c ≡ rows_up top rows n blank at r c)
     → (r c : ℕ) → r < rows → c < columns → rows_down (end - n) rows n blank mid r c ≡ rows_up top end n blank at r c
-up_twice rows top end n at mid fewer inside columns is r c high wide = elim (before_or_not r (end - n)) [
-  | inl above ↦ elim (before_or_not r top) [
-    | inl out ↦ down_other (end - n) rows n mid r c (inl above) ∙ is r c high wide ∙ up_other top rows n at r c (inl out) ∙ sym (up_other top end n at r c (inl out))
-    | inr low ↦ down_other (end - n) rows n mid r c (inl above) ∙ is r c high wide ∙ up_from top rows n at r c low (omega arith) ∙ sym (up_from top end n at r c low (omega arith))
-  ]
-  | inr low ↦ elim (before_or_not r end) [
-    | inl free ↦ down_blank (end - n) rows n mid r c low high (omega arith) ∙ sym (up_blank top end n at r c (omega arith) free (omega arith))
-    | inr below ↦ (let back : r - n + n ≡ r = omega arith in
-        down_from (end - n) rows n mid r c (omega arith) high ∙ is (r - n) c (omega arith) wide ∙ up_from top rows n at (r - n) c (omega arith) (omega (arith, back)) ∙ ap (λ k. at k c) back ∙ sym (up_other top end n at r c (inr below)))
-  ]
-]
+up_twice rows top end n at mid fewer inside columns is r c high wide = grind (arith, nat_tests)
 
 -- lines deleted above what is below the block, and inserted at its top
 pub down_twice : (rows top end n : ℕ) (at mid : ℕ → ℕ → LookView) → top + n < end → end ≤ rows → (columns : ℕ) → ((r c : ℕ) → r < rows → c < columns → mid r c ≡ rows_up (end - n) rows n blank at r c)
     → (r c : ℕ) → r < rows → c < columns → rows_down top rows n blank mid r c ≡ rows_down top end n blank at r c
-down_twice rows top end n at mid fewer inside columns is r c high wide = elim (before_or_not r top) [
-  | inl out ↦ down_other top rows n mid r c (inl out) ∙ is r c high wide ∙ up_other (end - n) rows n at r c (inl (omega arith)) ∙ sym (down_other top end n at r c (inl out))
-  | inr low ↦ elim (before_or_not r (top + n)) [
-    | inl free ↦ down_blank top rows n mid r c low high free ∙ sym (down_blank top end n at r c low (omega arith) free)
-    | inr moved ↦ elim (before_or_not r end) [
-      | inl block ↦ down_from top rows n mid r c moved high ∙ is (r - n) c (omega arith) wide ∙ up_other (end - n) rows n at (r - n) c (inl (omega arith)) ∙ sym (down_from top end n at r c moved block)
-      | inr below ↦ (let back : r - n + n ≡ r = omega arith in
-          down_from top rows n mid r c moved high ∙ is (r - n) c (omega arith) wide ∙ up_from (end - n) rows n at (r - n) c (omega arith) (omega (arith, back)) ∙ ap (λ k. at k c) back ∙ sym (down_other top end n at r c (inr below)))
-    ]
-  ]
-]
+down_twice rows top end n at mid fewer inside columns is r c high wide = grind (arith, nat_tests)
 
 -- the whole of a shift
 pub shifted_up : GridLaws LookView → (profile : ProfileView) (shift : Shift) → IsShift profile.rows shift → (old mid new : Draft) → Sends profile (rows_up shift.top profile.rows shift.count blank) old mid

@@ -1,7 +1,6 @@
 -- The short plan is all that an update wants, where it has no more bytes than the joined repaint.
-use Rattle.std.proofs.Common.{◌≡◌, ℕ, ◌+◌, ◌*◌, ◌-◌, ◌^◌, ◌<◌, ◌≤◌, ◌&&◌, ◌||◌, not, Bool, true, false, All, refl, sym, ◌∙◌, ap, subst, append_assoc, arith, List, [], ◌∷◌, ◌++◌, length, Option, Some, None, IfSome, if◌then◌else◌}
-use Rattle.std.specs.List.{list_all}
-use Rattle.std.proofs.lemmas.List.{append-nil, length-append}
+use Rattle.std.proofs.lemmas.Bool.Decides.{nat_tests}
+use Rattle.std.proofs.Common.{◌≡◌, ℕ, ◌+◌, ◌*◌, ◌-◌, ◌^◌, ◌<◌, ◌≤◌, ◌&&◌, ◌||◌, not, Bool, true, false, All, refl, sym, ◌∙◌, ap, subst, append_assoc, arith, List, [], ◌∷◌, ◌++◌, length, Option, None, IfSome, if◌then◌else◌, Some}
 use Rattle.scr_cells.specs.Grids.{GridLaws, IsGrid, grid_at}
 use Rattle.scr_cells.specs.LookViews.{LookView, blank}
 use Rattle.scr_cells.specs.PenViews.{plain_pen}
@@ -11,19 +10,20 @@ use Rattle.scr_term.specs.declared.operations.capability.Capability.TheVariants.
 use Rattle.scr_term.specs.declared.operations.operation.Op.{Op}
 use Rattle.scr_term.specs.declared.operations.operation.Op.TheVariants.{Clear, Reset}
 use Rattle.scr_term.specs.declared.operations.operation.Spot.TheVariants.{At}
-use Rattle.scr_term.specs.Operations.Abilities.{full_abilities}
 use Rattle.scr_term.specs.Operations.Laws.{BlankLaws, ProfilesHave, RunLaws}
 use Rattle.scr_term.specs.Operations.Profiles.{ProfileView, IsProfile, abilities, is_there}
 use Rattle.scr_term.specs.Operations.States.{TerminalState, IsShownPen, IsState, blank_state}
 use Rattle.scr_term.specs.Operations.Steps.{runs}
 use Rattle.scr_term.specs.Operations.Texts.{all_bytes, has}
+use Rattle.scr_plan.proofs.JoinedPriceLaws.{price, price_is}
+use Rattle.scr_plan.proofs.DraftLaws.{begun_aimed}
 use Rattle.scr_plan.proofs.JoinLaws.{cleared_row}
 use Rattle.scr_plan.proofs.RememberedPlanLaws.{agrees_itself}
 use Rattle.scr_plan.proofs.PlaceLaws.{resets_run, then_runs}
 use Rattle.scr_plan.proofs.PlainLaws.{look_same, not_false, not_in}
 use Rattle.scr_plan.proofs.RunLaws.{leaves_then}
 use Rattle.scr_plan.proofs.ScratchLaws.{cleared_run, grid_is_painted}
-use Rattle.scr_plan.specs.Code.Drafts.{HasMarks, IsDone, IsPartly, IsRight, Leaves, in_runs}
+use Rattle.scr_plan.specs.Code.Drafts.{aim_of, HasMarks, IsDone, IsPartly, IsRight, Leaves, in_runs}
 use Rattle.scr_plan.specs.Code.Joinings.{counted_up}
 use Rattle.scr_plan.specs.Code.Moves.{IsChanged, IsMoved}
 use Rattle.scr_plan.specs.Code.Painters.{painter_of, row_differs}
@@ -32,8 +32,8 @@ use Rattle.scr_memory.specs.Memories.{Agrees, IsMemory, MayBe, MemoryView, all_f
 use Rattle.scr_memory.specs.MemoryRuns.{KnownMemories, MemoryRuns}
 use Rattle.scr_plan.specs.Plans.{PlansAreRemembered}
 use Rattle.scr_plan.specs.Plans.{Begins, IsPlan}
-use Rattle.scr_plan.specs.Repaints.{IsSizeOf, JoinedIsCheap, anew_of, joined_of, look_eq}
-use Rattle.scr_plan.specs.Scratch.{Fits, RunsToShow, look_at, resets, scratch_of}
+use Rattle.scr_plan.specs.Repaints.{IsSizeOf, JoinedIsCheap, joined_of, look_eq}
+use Rattle.scr_plan.specs.Scratch.{Fits, RunsToShow, look_at, resets}
 use Rattle.scr_plan.specs.declared.painting.Painter.{Painter}
 use Rattle.scr_prices.specs.declared.runs.Run.{Run}
 use Rattle.scr_plan.specs.declared.strokes.Draft.{Draft}
@@ -42,9 +42,7 @@ use Rattle.scr_plan.specs.declared.strokes.Draft.{Draft}
 
 -- a state that is remembered is one of the profile, where its pen can be shown
 pub state_of : (profile : ProfileView) (memory : MemoryView) → IsMemory memory → memory.rows ≡ profile.rows → memory.columns ≡ profile.columns → IsShownPen (abilities profile) memory.state.pen → IsState (abilities profile) memory.state
-state_of profile memory is rows columns shown =
-    let full : IsState (full_abilities profile.rows profile.columns) memory.state = subst (λ n. IsState (full_abilities profile.rows n) memory.state) columns (subst (λ n. IsState (full_abilities n memory.columns) memory.state) rows is.state) in
-    record { whole = full.whole; looks = full.looks; spot = full.spot; pen = shown }
+state_of profile memory is rows columns shown = grind (arith, nat_tests)
 
 -- what is remembered has the screen's size
 pub whole_of : (profile : ProfileView) (picture : PictureView) (memory : MemoryView) → IsMemory memory → IsSizeOf picture memory → Fits profile picture → IsGrid profile.rows profile.columns memory.state.grid
@@ -67,37 +65,30 @@ changes_done profile picture start all some old mid new moved wiped painted plac
 pub anew_done : BlankLaws → (profile : ProfileView) → IsProfile profile → (picture : PictureView) → Fits profile picture → (painter : Painter) → painter ≡ painter_of profile → (all : List Run) → HasMarks painter picture all 0 picture.rows → (old new : Draft) (first : List Op)
     → old.keeps ≡ true → old.ops.items ≡ first → old.bytes ≡ 0 → old.spot ≡ At 0 0 → old.pen ≡ plain_pen → Leaves profile picture all [] old new
     → IfSome picture.wish (λ place. new.spot ≡ At place.0 place.1) → IsDone profile picture first (blank_state profile.rows profile.columns) new
-anew_done laws profile p picture fits painter who all marks old new first keeps ops bytes spot pen painted placed = record {
-  right =
-      painted 0 first (blank_state profile.rows profile.columns) (record {
-        keeps = keeps;
-        own = [];
-        ops = ops ∙ sym (append-nil first);
-        now = blank_state profile.rows profile.columns;
-        run = refl;
-        calm = refl;
-        state = laws.state profile p;
-        bytes = bytes;
-        spot = sym spot;
-        pen = sym pen;
-        shows = λ r c high wide e.
-            (λ i. grid_at blank (blank_state (sym fits.rows i) (sym fits.columns i)).grid r c)
-            ∙ (cleared_row picture r high).looks c
-            ∙ look_same blank (look_at profile picture (r, c)) (not_false (look_eq blank (look_at profile picture (r, c)))
-            (ap (λ p. row_differs p picture None (r, c)) (sym who) ∙ not_in (row_differs painter picture None (r, c)) (in_runs all (r, c)) (marks r c (omega arith) high wide) e));
-      });
-  spot = placed;
-}
+anew_done laws profile p picture fits painter who all marks old new first keeps ops bytes spot pen painted placed =
+    let blanks : TerminalState = blank_state profile.rows profile.columns in
+    record {
+      right =
+          painted 0 first blanks
+          (begun_aimed profile (aim_of profile picture) 0 first blanks (in_runs all) old keeps ops (laws.state profile p) bytes (sym spot) (sym pen)
+          (λ r c high wide e.
+          (λ i. grid_at blank (blank_state (sym fits.rows i) (sym fits.columns i)).grid r c)
+          ∙ (cleared_row picture r high).looks c
+          ∙ look_same blank (look_at profile picture (r, c)) (not_false (look_eq blank (look_at profile picture (r, c)))
+          (ap (λ p. row_differs p picture None (r, c)) (sym who) ∙ not_in (row_differs painter picture None (r, c)) (in_runs all (r, c)) (marks r c (omega arith) high wide) e))));
+      spot = placed;
+    }
 
 -- ---- what a finished draft shows
 
-right_shows : GridLaws LookView → (profile : ProfileView) (picture : PictureView) → IsPicture picture → Fits profile picture → (paid : ℕ) (first : List Op) (start : TerminalState) (draft : Draft) → (right : IsRight profile picture paid first start (in_runs []) draft)
-    → IfSome picture.wish (λ place. draft.spot ≡ At place.0 place.1) → RunsToShow profile start right.own picture
-right_shows grids profile picture k fits paid first start draft right placed =
+-- after operations that led to where it begins
+led_shows : RunLaws → GridLaws LookView → (profile : ProfileView) (picture : PictureView) → IsPicture picture → Fits profile picture → (paid : ℕ) (first : List Op) (old start : TerminalState) (draft : Draft) → runs profile old first ≡ Some start → IsRight profile picture paid first start (in_runs []) draft
+    → IfSome picture.wish (λ place. draft.spot ≡ At place.0 place.1) → RunsToShow profile old draft.ops.items picture
+led_shows laws grids profile picture k fits paid first old start draft led right placed =
     let lines : IsGrid profile.rows profile.columns picture.lines = rw (← fits.rows, ← fits.columns) k.grid in
     record {
       new = right.now;
-      run = right.run;
+      run = rw right.ops (then_runs laws profile old start right.now first right.own led right.run);
       shows = record {
         grid = grid_is_painted grids profile picture lines right.now.grid right.state.whole (λ r c high wide. right.shows r c (omega (arith, high, fits.rows)) (omega (arith, wide, fits.columns)) refl);
         spot = by picture.wish placed;
@@ -109,77 +100,43 @@ right_shows grids profile picture k fits paid first start draft right placed =
     by None placed = placed
     by (Some place) placed = right.spot ∙ placed
 
-done_shows : GridLaws LookView → (profile : ProfileView) (picture : PictureView) → IsPicture picture → Fits profile picture → (first : List Op) (start : TerminalState) (draft : Draft) → (done : IsDone profile picture first start draft) → RunsToShow profile start done.right.own picture
-done_shows grids profile picture k fits first start draft done = right_shows grids profile picture k fits 0 first start draft done.right done.spot
-
-never : {R : Type 0} (b : Bool) → b ≡ true → b ≡ false → R
-never true e f = (cc)
-never false e f = (cc)
-
-both_true : (a b : Bool) → (a && b) ≡ true → (a ≡ true) × (b ≡ true)
-both_true true true e = (refl, refl)
-both_true true false e = (cc)
-both_true false b e = (cc)
-
 -- counted as no more than what is counted exactly
-few_bytes : (own whole bytes drafted : ℕ) → drafted ≡ counted_up (0 + own) → drafted ≤ bytes → bytes < 2 ^ 64 - 1 → bytes ≤ counted_up whole → own ≤ whole
-few_bytes own whole bytes drafted counted less exact all = omega (arith, counted, less, exact, all)
-
-not_true : (b : Bool) → not b ≡ true → b ≡ false
-not_true true e = (cc)
-not_true false e = refl
+few_bytes : (own whole bytes drafted : ℕ) → drafted ≡ counted_up own → drafted ≤ bytes → bytes < 2 ^ 64 - 1 → bytes ≤ counted_up whole → own ≤ whole
+few_bytes own whole bytes drafted counted less exact all = omega arith
 
 -- if all is known, something is
-pub not_nothing : (memory : MemoryView) (repaint : Bool) → is_known memory ≡ true → (repaint || is_nothing_known memory) ≡ true → repaint ≡ true
-not_nothing memory true known e = refl
-not_nothing memory false known e =
-    let spot : memory.known_spot ≡ true = (both_true (list_all (λ known. known) memory.known_rows) memory.known_spot (both_true (list_all (λ known. known) memory.known_rows && memory.known_spot) memory.known_pen known).0).1 in
-    let none : not memory.known_spot ≡ true = (both_true (list_all not memory.known_rows) (not memory.known_spot) (both_true (list_all not memory.known_rows && not memory.known_spot) (not memory.known_pen) e).0).1 in
-    never (not memory.known_spot) none (ap not spot)
+pub not_nothing : {R : Type 0} (memory : MemoryView) (repaint : Bool) → (is_known memory && not repaint) ≡ true → (repaint || is_nothing_known memory) ≡ true → R
+not_nothing memory repaint due e = grind (arith, nat_tests)
 
 -- where all is known
 pub short_plan : RunLaws → KnownMemories → MemoryRuns → GridLaws LookView → (profile : ProfileView) → IsProfile profile → (virtual : VirtualView) → IsPicture virtual.picture → Fits profile virtual.picture
     → (memory : MemoryView) → IsGrid profile.rows profile.columns memory.state.grid → (is_known memory && not virtual.repaint) ≡ true → (draft : Draft) → IsChanged profile virtual.picture memory.state draft → (bytes : ℕ) → draft.bytes ≤ bytes → bytes < 2 ^ 64 - 1
     → bytes ≤ counted_up (length (all_bytes profile (joined_of profile memory virtual.picture))) → length draft.ops.items ≤ virtual.picture.rows * virtual.picture.columns * 12 + 4 → IsPlan profile memory virtual draft.ops.items
 short_plan laws known_laws memory_laws grids profile p virtual k fits memory whole due draft changed bytes less exact all few =
-    let parts = both_true (is_known memory) (not virtual.repaint) due in
-    let known : is_known memory ≡ true = parts.0 in
+    let known : is_known memory ≡ true = grind arith in
+    let calm : virtual.repaint ≡ false = grind arith in
     let moved = changed.moved in
-    let own : List Op = moved.right.own in
-    let ops : draft.ops.items ≡ moved.first ++ own = moved.right.ops in
-    let shown = right_shows grids profile virtual.picture k fits (length (all_bytes profile moved.first)) moved.first moved.mid draft moved.right changed.spot in
-    let shows : RunsToShow profile memory.state draft.ops.items virtual.picture = record {
-      new = shown.new;
-      run = ap (λ o. runs profile memory.state o) ops ∙ then_runs laws profile memory.state moved.mid shown.new moved.first own moved.led shown.run;
-      shows = shown.shows;
-      state = shown.state;
-    } in
-    let sum : length (all_bytes profile draft.ops.items) ≡ length (all_bytes profile moved.first) + length (all_bytes profile own) =
-    ap (λ o. length (all_bytes profile o)) ops ∙ ap length (laws.bytes profile moved.first own) ∙ length-append (all_bytes profile moved.first) (all_bytes profile own) in
-    let fewer : length (all_bytes profile draft.ops.items) ≤ length (all_bytes profile (joined_of profile memory virtual.picture)) =
-    few_bytes (length (all_bytes profile draft.ops.items)) (length (all_bytes profile (joined_of profile memory virtual.picture))) bytes draft.bytes
-    (moved.right.bytes ∙ ap counted_up (omega (arith, sum))) less exact all in
-    let calm : virtual.repaint ≡ false = not_true virtual.repaint parts.1 in
+    let shows = led_shows laws grids profile virtual.picture k fits (length (all_bytes profile moved.first)) moved.first memory.state moved.mid draft moved.led moved.right changed.spot in
+    let sum : price profile draft.ops.items ≡ price profile moved.first + price profile moved.right.own = rw moved.right.ops ((price_is laws profile).joined moved.first moved.right.own) in
     record {
       shows = λ old start. subst (λ state. RunsToShow profile state draft.ops.items virtual.picture) (known_laws.state (abilities profile) memory whole old (start.agrees calm) known) shows;
       agrees = λ may old new start run. memory_laws.follows profile p memory may old new draft.ops.items (start.agrees calm) run;
       known = λ may. memory_laws.stays_known profile p memory may memory.state shows.new draft.ops.items (agrees_itself (abilities profile) memory may) shows.run known;
-      begins = λ unknown there. never virtual.repaint (not_nothing memory virtual.repaint known unknown) calm;
+      begins = λ unknown there. not_nothing memory virtual.repaint due unknown;
       few = few;
-      cheap = subst (λ due. length (all_bytes profile draft.ops.items) ≤ length (all_bytes profile (if due then joined_of profile memory virtual.picture else scratch_of profile virtual.picture))) (sym due) fewer;
+      cheap = rw due (few_bytes (price profile draft.ops.items) (price profile (joined_of profile memory virtual.picture)) bytes draft.bytes (omega (arith, moved.right.bytes, sum)) less exact all);
     }
 
 -- where all is known and no terminal of the profile can have the pen, no state agrees
 pub never_plan : (profile : ProfileView) (memory : MemoryView) (virtual : VirtualView) → (is_known memory && not virtual.repaint) ≡ true → (IsShownPen (abilities profile) memory.state.pen → ⊥) → IsPlan profile memory virtual []
 never_plan profile memory virtual due hidden =
-    let parts = both_true (is_known memory) (not virtual.repaint) due in
-    let calm : virtual.repaint ≡ false = not_true virtual.repaint parts.1 in
-    let pen : memory.known_pen ≡ true = (both_true (list_all (λ known. known) memory.known_rows && memory.known_spot) memory.known_pen parts.0).1 in
+    let calm : virtual.repaint ≡ false = grind arith in
+    let pen : memory.known_pen ≡ true = grind arith in
     record {
       shows = λ old start. absurd (hidden (subst (IsShownPen (abilities profile)) ((start.agrees calm).pen pen) (start.agrees calm).is_state.pen));
       agrees = λ may old new start run. absurd (hidden may.state.pen);
       known = λ may. absurd (hidden may.state.pen);
-      begins = λ unknown there. never virtual.repaint (not_nothing memory virtual.repaint parts.0 unknown) calm;
+      begins = λ unknown there. not_nothing memory virtual.repaint due unknown;
       few = omega arith;
       cheap = omega arith;
     }
@@ -196,20 +153,11 @@ short_plan_anew laws have remembered cheap grids profile p virtual k fits memory
     let picture : PictureView = virtual.picture in
     let own : List Op = done.right.own in
     let first : List Op = resets profile ++ Clear ∷ [] in
-    let blanks : TerminalState = blank_state profile.rows profile.columns in
-    let shown = done_shows grids profile picture k fits first blanks draft done in
     let ops : draft.ops.items ≡ first ++ own = done.right.ops in
-    let anew : (old : TerminalState) → IsState (abilities profile) old → RunsToShow profile old draft.ops.items picture = λ old state. record {
-      new = shown.new;
-      run = ap (λ o. runs profile old o) ops ∙ then_runs laws profile old blanks shown.new first own (cleared_run laws profile (have profile p) old state.pen) shown.run;
-      shows = shown.shows;
-      state = shown.state;
-    } in
-    let fewer : length (all_bytes profile own) ≤ length (all_bytes profile (painted_anew profile picture)) = few_bytes (length (all_bytes profile own)) (length (all_bytes profile (painted_anew profile picture))) bytes draft.bytes done.right.bytes less exact (omega (arith, all)) in
-    let mine : length (all_bytes profile draft.ops.items) ≡ length (all_bytes profile first) + length (all_bytes profile own) =
-    ap (λ o. length (all_bytes profile o)) ops ∙ ap length (laws.bytes profile first own) ∙ length-append (all_bytes profile first) (all_bytes profile own) in
-    let whole : length (all_bytes profile (anew_of profile picture)) ≡ length (all_bytes profile first) + length (all_bytes profile (painted_anew profile picture)) =
-    ap length (laws.bytes profile first (painted_anew profile picture)) ∙ length-append (all_bytes profile first) (all_bytes profile (painted_anew profile picture)) in
+    let anew : (old : TerminalState) → IsState (abilities profile) old → RunsToShow profile old draft.ops.items picture = λ old state.
+    led_shows laws grids profile picture k fits 0 first old (blank_state profile.rows profile.columns) draft (cleared_run laws profile (have profile p) old state.pen) done.right done.spot in
+    let fewer = few_bytes (price profile own) (price profile (painted_anew profile picture)) bytes draft.bytes (omega (arith, done.right.bytes)) less exact (omega (arith, all)) in
+    let mine : price profile draft.ops.items ≡ price profile first + price profile own = rw ops ((price_is laws profile).joined first own) in
     record {
       shows = λ old start. anew old start.state;
       agrees = λ may old new start run. subst (λ o. Agrees (abilities profile) (all_followed profile o memory) new) (sym ops) (remembered.agrees profile p memory may old new start.state own (ap (λ o. runs profile old o) (sym ops) ∙ run));
@@ -218,9 +166,7 @@ short_plan_anew laws have remembered cheap grids profile p virtual k fits memory
           subst (λ o. is_known (all_followed profile o memory) ≡ true) (sym ops) (remembered.cleared profile p memory may run.new own (ap (λ o. runs profile memory.state o) (sym ops) ∙ run.run));
       begins = λ unknown there. begins_with profile draft.ops.items (Clear ∷ [] ++ own) there (ops ∙ append_assoc (resets profile) (Clear ∷ []) own);
       few = few;
-      cheap =
-          let less : length (all_bytes profile draft.ops.items) ≤ length (all_bytes profile (scratch_of profile picture)) = omega (arith, fewer, mine, whole, cheap.anew profile picture) in
-          subst (λ due. length (all_bytes profile draft.ops.items) ≤ length (all_bytes profile (if due then joined_of profile memory picture else scratch_of profile picture))) (sym due) less;
+      cheap = rw due (omega (arith, fewer, mine, (price_is laws profile).joined first (painted_anew profile picture), cheap.anew profile picture));
     }
 
 -- where some rows are not known, and a plan that clears the screen has no fewer bytes
@@ -228,35 +174,22 @@ pub partly_plan : RunLaws → ProfilesHave → MemoryRuns → GridLaws LookView 
     → (memory : MemoryView) → MayBe (abilities profile) memory → (is_known memory && not virtual.repaint) ≡ false → virtual.repaint ≡ false → (draft : Draft) → IsPartly profile virtual.picture memory draft → (whole : List Op) → IsPlan profile memory virtual whole
     → (bytes : ℕ) → draft.bytes ≤ bytes → bytes < 2 ^ 64 - 1 → (All (λ op. has profile op ≡ true) whole → bytes ≡ counted_up (length (all_bytes profile whole))) → length draft.ops.items ≤ virtual.picture.rows * virtual.picture.columns * 12 + 4 → IsPlan profile memory virtual draft.ops.items
 partly_plan laws have memories grids profile p virtual k fits memory may due calm draft partly whole plan bytes less exact priced few =
+    let first : List Op = resets profile in
     let here : Agrees (abilities profile) memory memory.state = agrees_itself (abilities profile) memory may in
     let shown = plan.shows memory.state (record { state = may.state; agrees = λ _. here }) in
-    let all : bytes ≡ counted_up (length (all_bytes profile whole)) = priced (laws.had profile memory.state shown.new whole shown.run) in
+    let all : bytes ≡ counted_up (price profile whole) = priced (laws.had profile memory.state shown.new whole shown.run) in
     let mine = partly.right memory.state here in
-    let sum : length (all_bytes profile draft.ops.items) ≡ length (all_bytes profile first) + length (all_bytes profile mine.own) =
-    ap (λ o. length (all_bytes profile o)) mine.ops ∙ ap length (laws.bytes profile first mine.own) ∙ length-append (all_bytes profile first) (all_bytes profile mine.own) in
-    let fewer : length (all_bytes profile draft.ops.items) ≤ length (all_bytes profile whole) =
-    few_bytes (length (all_bytes profile draft.ops.items)) (length (all_bytes profile whole)) bytes draft.bytes (mine.bytes ∙ ap counted_up (omega (arith, sum))) less exact (omega (arith, all)) in
+    let sum : price profile draft.ops.items ≡ price profile first + price profile mine.own = rw mine.ops ((price_is laws profile).joined first mine.own) in
+    let fewer = few_bytes (price profile draft.ops.items) (price profile whole) bytes draft.bytes (omega (arith, mine.bytes, sum)) less exact (omega (arith, all)) in
     record {
-      shows = λ old start. shows old (start.agrees calm);
+      shows = λ old start.
+          let agrees = start.agrees calm in
+          led_shows laws grids profile virtual.picture k fits (price profile first) first old (made_plain old) draft (resets_run profile (have profile p) old agrees.is_state.pen) (partly.right old agrees) partly.spot;
       agrees = λ may old new start run. memories.follows profile p memory may old new draft.ops.items (start.agrees calm) run;
       known = partly.known;
       begins = λ unknown there. begins_with profile draft.ops.items mine.own there mine.ops;
       few = few;
       cheap = omega (arith, fewer, plan.cheap);
     }
-  where
-    first : List Op
-    first = resets profile
-
-    shows : (old : TerminalState) → Agrees (abilities profile) memory old → RunsToShow profile old draft.ops.items virtual.picture
-    shows old agrees =
-        let right = partly.right old agrees in
-        let shown = right_shows grids profile virtual.picture k fits (length (all_bytes profile first)) first (made_plain old) draft right partly.spot in
-        record {
-          new = shown.new;
-          run = ap (λ o. runs profile old o) right.ops ∙ then_runs laws profile old (made_plain old) shown.new first right.own (resets_run profile (have profile p) old agrees.is_state.pen) shown.run;
-          shows = shown.shows;
-          state = shown.state;
-        }
 
 -- ---- which pens a terminal can have

@@ -1,31 +1,32 @@
 -- Rows that are not known: they are erased, and all is known then.
-use Rattle.std.proofs.Common.{All, ◌≡◌, ℕ, zero, suc, ◌+◌, ◌<◌, ◌≤◌, ◌==◌, ◌&&◌, ◌||◌, not, leb, ltb, Bool, true, false, refl, sym, ◌∙◌, ap, subst, arith, List, [], ◌∷◌, ◌++◌, cond, get_or, length, set, Option, Some, None, IfSome, Result, Ok, Err, IfOk, option_and_then, replicate, if◌then◌else◌}
+use Rattle.std.proofs.Common.{All, ◌≡◌, ℕ, zero, suc, ◌+◌, ◌<◌, ◌==◌, ◌&&◌, ◌||◌, not, leb, ltb, Bool, true, false, refl, sym, ◌∙◌, ap, subst, arith, List, [], ◌∷◌, ◌++◌, cond, get_or, length, set, Option, Some, None, IfSome, Result, IfOk, option_and_then, replicate, if◌then◌else◌}
 use Rattle.std.specs.List.{list_all}
 use Rattle.std.proofs.lemmas.Bool.Decides.{nat_tests}
-use Rattle.std.proofs.lemmas.List.{append-nil, get_or-set_same}
+use Rattle.std.proofs.lemmas.List.{get_or-set_same, get_or-set_other, get_or-replicate}
 use Rattle.std.proofs.lemmas.List.FromFn.{get_or-map-range_with_len}
-use Rattle.scr_cells.specs.Grids.{GridLaws, grid_at, is_in_run}
-use Rattle.scr_cells.specs.LookViews.{LookView, blank}
+use borrow.Author.Count.{below_more}
+use Rattle.scr_cells.specs.Grids.{grid_at, is_in_run}
+use Rattle.scr_cells.specs.LookViews.{blank}
 use Rattle.scr_cells.specs.PenViews.{PenView, is_plain_pen, plain_pen}
 use Rattle.scr_cells.specs.PictureViews.{PictureView}
 use Rattle.scr_term.specs.declared.operations.capability.Capability.TheVariants.{Sgr0}
 use Rattle.scr_term.specs.declared.operations.operation.Op.{Op}
 use Rattle.scr_term.specs.declared.operations.operation.Op.TheVariants.{EraseBelow, EraseLine, Move, Reset}
 use Rattle.scr_term.specs.declared.operations.operation.Spot.{Spot}
-use Rattle.scr_term.specs.declared.operations.operation.Spot.TheVariants.{At, Margin}
+use Rattle.scr_term.specs.declared.operations.operation.Spot.TheVariants.{At}
 use Rattle.scr_term.specs.Operations.Laws.{HasLaws, ProfilesHave, RunLaws}
 use Rattle.scr_term.specs.Operations.Profiles.{ProfileView, IsProfile, abilities, is_there}
-use Rattle.scr_term.specs.Operations.States.{TerminalState, IsState, erased, from_place, is_from_place, rest_of_line_erased}
-use Rattle.scr_term.specs.Operations.Steps.{act, lines_below_erased, runs, step}
+use Rattle.scr_term.specs.Operations.States.{TerminalState, IsState, erased, is_from_place}
+use Rattle.scr_term.specs.Operations.Steps.{act, runs, step}
 use Rattle.scr_term.specs.Operations.Texts.{all_bytes, has}
-use Rattle.scr_plan.proofs.DraftLaws.{drawn, weaker, weaker_inside}
+use Rattle.scr_plan.proofs.DraftLaws.{begun_aimed, weaker, weaker_inside}
 use Rattle.scr_plan.proofs.RememberedPlanLaws.{agrees_itself}
-use Rattle.scr_plan.proofs.PlaceLaws.{at_place, move_run, one_run, plain, resets_run, then_runs}
-use Rattle.scr_plan.proofs.PlainLaws.{both, look_same, not_false, not_in}
-use Rattle.scr_plan.specs.Code.Drafts.{AreUnknown, HasUnsettled, HasUnsettledIn, IsAdded, IsPartly, IsRight, IsRightPlain, Keeps, KeepsAll, KeepsRuns, Knows, Leaves, RightFrom, Wipes, WipesRow, aim_of, in_runs, is_calm, or_below, or_from, or_row, row_wiped, unsettled, wiped}
+use Rattle.scr_plan.proofs.PlaceLaws.{at_place, move_run, one_run, plain, resets_run, then_runs, erases_below, erases_line, first_step}
+use Rattle.scr_plan.proofs.PlainLaws.{both, not_in, same_is_shown}
+use Rattle.scr_plan.specs.Code.Drafts.{AreUnknown, HasUnsettled, HasUnsettledIn, IsAdded, IsPartly, IsRightPlain, Keeps, KeepsAll, KeepsRuns, Knows, Leaves, RightFrom, Wipes, WipesRow, aim_of, in_runs, is_calm, or_below, or_from, or_row, row_wiped, unsettled, wiped}
 use Rattle.scr_plan.specs.Code.Joinings.{counted_up}
 use Rattle.scr_plan.specs.Code.Painters.{painter_of, painter_resets}
-use Rattle.scr_memory.specs.Memories.{MayBe, MemoryView, all_followed, changes_cells, clears, followed, has_one_pen, is_known, is_known_row, known_from, made_plain, moves_rows, places_spot, rows_erased, sets_pen, stepped}
+use Rattle.scr_memory.specs.Memories.{MayBe, MemoryView, all_followed, clears, has_one_pen, is_known, is_known_row, known_from, made_plain, moves_rows, rows_erased, stepped}
 use Rattle.scr_memory.specs.MemoryRuns.{MemoryRuns}
 use Rattle.scr_plan.specs.Repaints.{look_eq, look_in}
 use Rattle.scr_plan.specs.Scratch.{Fits, look_at, resets}
@@ -34,8 +35,7 @@ use Rattle.scr_prices.specs.declared.runs.Run.{Run}
 use Rattle.scr_plan.specs.declared.strokes.Draft.{Draft}
 
 never : {R : Type 0} (b : Bool) → b ≡ true → b ≡ false → R
-never true e f = (cc)
-never false e f = (cc)
+never b e f = grind (arith, nat_tests)
 
 -- ---- rows that an erasure makes known
 
@@ -50,46 +50,24 @@ there (row ∷ rows) (suc r) e = omega (arith, there rows r e)
 
 -- rows that were known are, and so are those from one on
 from_stays : (first : ℕ) (rows : List Bool) (r : ℕ) → get_or rows r false ≡ true → get_or (known_from first rows) r false ≡ true
-from_stays first rows r e = from_at first rows r (there rows r e) ∙ ap (cond (leb first r) true) e ∙ always (leb first r)
-  where
-    always : (b : Bool) → cond b true true ≡ true
-    always true = refl
-    always false = refl
+from_stays first rows r e = grind (arith, nat_tests, from_at, there)
 
 from_known : (first : ℕ) (rows : List Bool) (r : ℕ) → leb first r ≡ true → r < length rows → get_or (known_from first rows) r false ≡ true
 from_known first rows r low h = from_at first rows r h ∙ ap (λ b. cond b true (get_or rows r false)) low
 
 -- ---- what is known goes on to be known, where the cursor and the pen are
 
--- a row that is there is known in a list of which all are
-known_there : (n r : ℕ) (rows : List Bool) → n ≡ length rows → get_or rows r false ≡ true → get_or (replicate n true) r false ≡ true
-known_there zero r [] same known = (cc)
-known_there zero r (row ∷ rows) same known = absurd (omega (arith, same))
-known_there (suc n) r [] same known = absurd (omega (arith, same))
-known_there (suc n) zero (row ∷ rows) same known = refl
-known_there (suc n) (suc r) (row ∷ rows) same known = known_there n r rows (omega (arith, same)) known
-
 stays_set : (rows : List Bool) (row r : ℕ) → get_or rows r false ≡ true → get_or (set rows row true) r false ≡ true
-stays_set [] row r known = known
-stays_set (k ∷ rows) zero zero known = refl
-stays_set (k ∷ rows) zero (suc r) known = known
-stays_set (k ∷ rows) (suc row) zero known = known
-stays_set (k ∷ rows) (suc row) (suc r) known = stays_set rows row r known
+stays_set rows row r known = grind (arith, there, get_or-set_other, get_or-set_same)
 
 stays_erased : (op : Op) (spot : Spot) (rows : List Bool) (r : ℕ) → get_or rows r false ≡ true → get_or (rows_erased op spot rows) r false ≡ true
-stays_erased EraseLine (At row zero) rows r known = stays_set rows row r known
-stays_erased EraseLine (At row (suc c)) rows r known = known
-stays_erased EraseLine (Margin row) rows r known = known
-stays_erased EraseBelow (At row zero) rows r known = from_stays row rows r known
-stays_erased EraseBelow (At row (suc c)) rows r known = known
-stays_erased EraseBelow (Margin row) rows r known = known
+stays_erased EraseLine spot rows r known = grind (arith, stays_set)
+stays_erased EraseBelow spot rows r known = grind (arith, from_stays)
 stays_erased op spot rows r known = known
 
 stays_followed : (op : Op) (spot : Spot) (rows : List Bool) (r : ℕ) (a b k : Bool) → get_or rows r false ≡ true
     → get_or (if a then replicate (length rows) true else (if (b && not (true && true)) || (false && k) then replicate (length rows) false else rows_erased op spot rows)) r false ≡ true
-stays_followed op spot rows r true b k known = known_there (length rows) r rows refl known
-stays_followed op spot rows r false true k known = stays_erased op spot rows r known
-stays_followed op spot rows r false false k known = stays_erased op spot rows r known
+stays_followed op spot rows r a b k known = grind (arith, get_or-replicate, there, stays_erased)
 
 -- what stays after operations
 record Still (profile : ProfileView) (memory : MemoryView) (ops : List Op) : Type 0 where
@@ -101,81 +79,26 @@ still : (profile : ProfileView) (memory : MemoryView) (ops : List Op) (now : Ter
 still profile memory [] now calm spot pen run = record { known_spot = spot; known_pen = pen; rows = λ r known. known }
 still profile memory (op ∷ ops) now calm spot pen run = by (step profile memory.state op) refl (λ m s p e. still profile m ops now (both (not (moves_rows op)) (is_calm ops) calm).1 s p e) run
   where
-    not_moved : (b : Bool) → not b ≡ true → b ≡ false
-    not_moved true e = (cc)
-    not_moved false e = refl
-
-    nothing : {R : Type 0} → None ≡ Some now → R
-    nothing e = (cc)
-
     by : (next : Option TerminalState) → step profile memory.state op ≡ next → ((m : MemoryView) → m.known_spot ≡ true → m.known_pen ≡ true → runs profile m.state ops ≡ Some now → Still profile m ops)
         → option_and_then (λ s. runs profile s ops) next ≡ Some now → Still profile memory (op ∷ ops)
-    by None at on e = nothing e
-    by (Some next) at on e =
-        let after : MemoryView = stepped (abilities profile) op memory (Some next) in
-        let same : followed profile op memory ≡ after = ap (λ n. stepped (abilities profile) op memory n) at in
-        let rest : Still profile after ops = on after (ap (λ b. b || places_spot op) spot) (ap (λ b. b || sets_pen op || has_one_pen (abilities profile)) pen) e in
-        let stays : moves_rows op ≡ false = not_moved (moves_rows op) (both (not (moves_rows op)) (is_calm ops) calm).0 in
-        let kept : (r : ℕ) → is_known_row memory r ≡ true → is_known_row after r ≡ true = λ r known.
-        (λ i. get_or (if clears op then replicate (length memory.known_rows) true else (if (changes_cells op && not (spot i && pen i)) || (stays i && not (is_known memory)) then replicate (length memory.known_rows) false else rows_erased op next.spot memory.known_rows)) r false)
-        ∙ stays_followed op next.spot memory.known_rows r (clears op) (changes_cells op) (not (is_known memory)) known in
-        record {
-          known_spot = ap (λ m. (all_followed profile ops m).known_spot) same ∙ rest.known_spot;
-          known_pen = ap (λ m. (all_followed profile ops m).known_pen) same ∙ rest.known_pen;
-          rows = λ r known. ap (λ m. is_known_row (all_followed profile ops m) r) same ∙ rest.rows r (kept r known);
-        }
+    by next at on e = grind (arith, nat_tests, both, stays_followed)
 
 -- ---- what a draft's operations make known
 
 pub knows_weaker : (profile : ProfileView) (memory : MemoryView) (known less : ℕ → Bool) (draft : Draft) → ((r : ℕ) → less r ≡ true → known r ≡ true) → Knows profile memory known draft → Knows profile memory less draft
-knows_weaker profile memory known less draft fewer knows = record {
-  keeps = knows.keeps;
-  may = knows.may;
-  known_spot = knows.known_spot;
-  known_pen = knows.known_pen;
-  spot = knows.spot;
-  pen = knows.pen;
-  bytes = knows.bytes;
-  rows = λ r e. knows.rows r (fewer r e);
-}
+knows_weaker profile memory known less draft fewer knows = grind (arith, nat_tests)
 
 -- operations more that are defined from what is remembered
 knows_more : MemoryRuns → (profile : ProfileView) → IsProfile profile → (memory : MemoryView) (known : ℕ → Bool) (old new : Draft) (own : List Op) (now : TerminalState) → Knows profile memory known old → new.keeps ≡ old.keeps → new.ops.items ≡ old.ops.items ++ own → is_calm own ≡ true
     → runs profile (all_followed profile old.ops.items memory).state own ≡ Some now → now.spot ≡ new.spot → now.pen ≡ new.pen → new.bytes ≡ counted_up new.bytes → Knows profile memory known new
-knows_more laws profile p memory known old new own now knows keeps ops calm run spot pen bytes =
-    let m : MemoryView = all_followed profile old.ops.items memory in
-    let same : all_followed profile new.ops.items memory ≡ all_followed profile own m = ap (λ o. all_followed profile o memory) ops ∙ laws.joined profile memory old.ops.items own in
-    let state : (all_followed profile new.ops.items memory).state ≡ now = ap (λ (m : MemoryView). m.state) same ∙ laws.state profile m now own run in
-    let stays : Still profile m own = still profile m own now calm knows.known_spot knows.known_pen run in
-    record {
-      keeps = keeps ∙ knows.keeps;
-      may = subst (MayBe (abilities profile)) (sym same) (laws.stays_possible profile p m own knows.may);
-      known_spot = ap (λ (m : MemoryView). m.known_spot) same ∙ stays.known_spot;
-      known_pen = ap (λ (m : MemoryView). m.known_pen) same ∙ stays.known_pen;
-      spot = ap (λ (s : TerminalState). s.spot) state ∙ spot;
-      pen = ap (λ (s : TerminalState). s.pen) state ∙ pen;
-      bytes = bytes;
-      rows = λ r e. ap (λ m. is_known_row m r) same ∙ stays.rows r (knows.rows r e);
-    }
+knows_more laws profile p memory known old new own now knows keeps ops calm run spot pen bytes = grind (arith, nat_tests, still)
 
 -- strokes keep what is known
 pub knows_kept : MemoryRuns → (profile : ProfileView) → IsProfile profile → (picture : PictureView) (memory : MemoryView) (known : ℕ → Bool) (old new : Draft) → KeepsAll profile picture old new → Knows profile memory known old → Knows profile memory known new
 knows_kept laws profile p picture memory known old new keeps knows =
     let m : MemoryView = all_followed profile old.ops.items memory in
-    let right : IsRight profile picture old.bytes old.ops.items m.state (λ _. true) new =
-    keeps (λ _. true) old.bytes old.ops.items m.state (record {
-      keeps = knows.keeps;
-      own = [];
-      ops = sym (append-nil old.ops.items);
-      now = m.state;
-      run = refl;
-      calm = refl;
-      state = knows.may.state;
-      bytes = knows.bytes ∙ omega arith;
-      spot = knows.spot;
-      pen = knows.pen;
-      shows = λ r c high wide e. never true refl e;
-    }) in
+    let right = keeps (λ _. true) old.bytes old.ops.items m.state
+    (begun_aimed profile (aim_of profile picture) old.bytes old.ops.items m.state (λ _. true) old knows.keeps refl knows.may.state knows.bytes knows.spot knows.pen (λ r c high wide e. never true refl e)) in
     knows_more laws profile p memory known old new right.own right.now knows (right.keeps ∙ sym knows.keeps) right.ops right.calm right.run right.spot right.pen (omega (arith, right.bytes))
 
 -- an erasure, where the cursor and the pen are known
@@ -190,9 +113,7 @@ knows_by run_laws laws profile p memory known more old new op next dirty still_t
     let goes_on = knows_more laws profile p memory known old new (op ∷ []) next knows added.keeps (added.ops knows.keeps) (λ i. not (still_there i) && true) run (spot ∙ sym added.spot_is) (pen ∙ sym added.pen_is) bytes in
     let same : all_followed profile new.ops.items memory ≡ stepped (abilities profile) op m (Some next) =
     ap (λ o. all_followed profile o memory) (added.ops knows.keeps) ∙ laws.joined profile memory old.ops.items (op ∷ []) ∙ ap (λ n. stepped (abilities profile) op m n) stepped_to in
-    let rows : (all_followed profile new.ops.items memory).known_rows ≡ (if (changes_cells op && not (true && true)) || (false && not (is_known m)) then replicate (length m.known_rows) false else rows_erased op old.spot m.known_rows) =
-    ap (λ (m : MemoryView). m.known_rows) same
-    ∙ (λ i. if dirty i then replicate (length m.known_rows) true else (if (changes_cells op && not (knows.known_spot i && knows.known_pen i)) || (still_there i && not (is_known m)) then replicate (length m.known_rows) false else rows_erased op (spot i) m.known_rows)) in
+    let rows : (all_followed profile new.ops.items memory).known_rows ≡ rows_erased op old.spot m.known_rows = grind (arith, same, dirty, still_there, spot, knows.known_spot, knows.known_pen) in
     record {
       keeps = goes_on.keeps;
       may = goes_on.may;
@@ -201,59 +122,39 @@ knows_by run_laws laws profile p memory known more old new op next dirty still_t
       spot = goes_on.spot;
       pen = goes_on.pen;
       bytes = bytes;
-      rows = λ r e. ap (λ rows. get_or rows r false) (rows ∙ kept (changes_cells op) (not (is_known m)) (replicate (length m.known_rows) false) (rows_erased op old.spot m.known_rows)) ∙ erased r e;
+      rows = λ r e. ap (λ rows. get_or rows r false) rows ∙ erased r e;
     }
-  where
-    kept : (b k : Bool) (none some : List Bool) → (if (b && not (true && true)) || (false && k) then none else some) ≡ some
-    kept true k none some = refl
-    kept false k none some = refl
 
 -- an erasure of the row where the cursor is in its first column
 pub knows_erased : RunLaws → MemoryRuns → (profile : ProfileView) → IsProfile profile → (memory : MemoryView) (known : ℕ → Bool) (row : ℕ) → row < profile.rows → (old new : Draft) → has profile EraseLine ≡ true → old.spot ≡ At row 0 → is_plain_pen old.pen ≡ true
     → IsAdded profile old new (EraseLine ∷ []) old.spot old.pen → Knows profile memory known old → Knows profile memory (or_row known row) new
 knows_erased run_laws laws profile p memory known row high old new had here plain added knows =
     let m : MemoryView = all_followed profile old.ops.items memory in
-    let next : TerminalState = erased profile.rows profile.columns (is_in_run row 0 profile.columns) m.state in
-    let acted : act profile m.state EraseLine ≡ Some next =
-    ap (λ b. if b then rest_of_line_erased profile.rows profile.columns m.state else None) (ap is_plain_pen knows.pen ∙ plain)
-    ∙ ap (λ spot. from_place spot (λ r c. Some (erased profile.rows profile.columns (is_in_run r c profile.columns) m.state))) (knows.spot ∙ here) in
-    knows_by run_laws laws profile p memory known (or_row known row) old new EraseLine next refl refl had acted knows.spot knows.pen added knows
+    knows_by run_laws laws profile p memory known (or_row known row) old new EraseLine (erased profile.rows profile.columns (is_in_run row 0 profile.columns) m.state) refl refl had
+    (erases_line profile m.state row 0 (knows.spot ∙ here) (ap is_plain_pen knows.pen ∙ plain)) knows.spot knows.pen added knows
     (λ r e. ap (λ spot. get_or (rows_erased EraseLine spot m.known_rows) r false) here ∙ by r (known r) refl e (knows.rows r) (omega (arith, high, knows.may.high)))
   where
     by : (r : ℕ) (b : Bool) → known r ≡ b → (known r || r == row) ≡ true → (known r ≡ true → get_or (all_followed profile old.ops.items memory).known_rows r false ≡ true) → row < length (all_followed profile old.ops.items memory).known_rows
         → get_or (set (all_followed profile old.ops.items memory).known_rows row true) r false ≡ true
-    by r true at e was inside = stays_set (all_followed profile old.ops.items memory).known_rows row r (was at)
-    by r false at e was inside =
-        let same : (r == row) ≡ true = sym (ap (λ b. b || r == row) at) ∙ e in
-        let here : r ≡ row = grind (arith, nat_tests) in
-        ap (λ k. get_or (set (all_followed profile old.ops.items memory).known_rows row true) k false) here
-        ∙ get_or-set_same (all_followed profile old.ops.items memory).known_rows row true false inside
+    by r b at e was inside = grind (arith, nat_tests, stays_set, get_or-set_same)
 
 -- an erasure of that row and of all below it
 pub knows_erased_below : RunLaws → MemoryRuns → (profile : ProfileView) → IsProfile profile → (memory : MemoryView) (known : ℕ → Bool) (top : ℕ) (old new : Draft) → has profile EraseBelow ≡ true → old.spot ≡ At top 0 → is_plain_pen old.pen ≡ true
     → IsAdded profile old new (EraseBelow ∷ []) old.spot old.pen → Knows profile memory known old → Knows profile memory (or_from known top profile.rows) new
 knows_erased_below run_laws laws profile p memory known top old new had here plain added knows =
     let m : MemoryView = all_followed profile old.ops.items memory in
-    let next : TerminalState = erased profile.rows profile.columns (is_from_place top 0) m.state in
-    let acted : act profile m.state EraseBelow ≡ Some next =
-    ap (λ b. if b then lines_below_erased profile.rows profile.columns m.state else None) (ap is_plain_pen knows.pen ∙ plain)
-    ∙ ap (λ spot. from_place spot (λ r c. if c == 0 then Some (erased profile.rows profile.columns (is_from_place r c) m.state) else None)) (knows.spot ∙ here) in
-    knows_by run_laws laws profile p memory known (or_from known top profile.rows) old new EraseBelow next refl refl had acted knows.spot knows.pen added knows
+    knows_by run_laws laws profile p memory known (or_from known top profile.rows) old new EraseBelow (erased profile.rows profile.columns (is_from_place top 0) m.state) refl refl had
+    (erases_below profile m.state top (knows.spot ∙ here) (ap is_plain_pen knows.pen ∙ plain)) knows.spot knows.pen added knows
     (λ r e. ap (λ spot. get_or (rows_erased EraseBelow spot m.known_rows) r false) here ∙ by r (known r) refl e (knows.rows r))
   where
     by : (r : ℕ) (b : Bool) → known r ≡ b → or_from known top profile.rows r ≡ true → (known r ≡ true → get_or (all_followed profile old.ops.items memory).known_rows r false ≡ true)
         → get_or (known_from top (all_followed profile old.ops.items memory).known_rows) r false ≡ true
-    by r true at e was = from_stays top (all_followed profile old.ops.items memory).known_rows r (was at)
-    by r false at e was =
-        let inside = both (leb top r) (ltb r profile.rows) (sym (ap (λ b. b || (leb top r && ltb r profile.rows)) at) ∙ e) in
-        let under : r < profile.rows = grind (arith, nat_tests, inside.1) in
-        from_known top (all_followed profile old.ops.items memory).known_rows r inside.0 (omega (arith, under, knows.may.high))
+    by r b at e was = grind (arith, nat_tests, from_stays, both, from_known)
 
 -- ---- where the draft begins
 
 or_true : (b : Bool) → (b || true) ≡ true
-or_true true = refl
-or_true false = refl
+or_true b = grind (arith, nat_tests)
 
 -- what a draft begins with: no attribute, default colours, and the cursor at the beginning of a row
 abbrev pub begins_plain : ProfileView → ℕ → List Op
@@ -272,25 +173,13 @@ moved_plain have profile p row high wide start = move_run profile (have profile 
 
 begun_run : RunLaws → ProfilesHave → (profile : ProfileView) → IsProfile profile → (row : ℕ) → row < profile.rows → 0 < profile.columns → (start : TerminalState) → IsState (abilities profile) start
     → runs profile start (begins_plain profile row) ≡ Some (plain (at_place start (row, 0)))
-begun_run laws have profile p row high wide start state =
-    then_runs laws profile start (made_plain start) (plain (at_place start (row, 0))) (resets profile) (Move row 0 ∷ []) (resets_run profile (have profile p) start state.pen) (moved_plain have profile p row high wide start)
+begun_run laws have profile p row high wide start state = grind (arith, nat_tests)
 
 -- how the draft was made
 pub begun_is : RunLaws → ProfilesHave → (profile : ProfileView) → IsProfile profile → (painter : Painter) → painter ≡ painter_of profile → (row : ℕ) → row < profile.rows → 0 < profile.columns → (ops : List Op) → ops ≡ [] ++ painter_resets painter → (price : ℕ)
     → (All (λ op. has profile op ≡ true) ops → price ≡ counted_up (length (all_bytes profile ops))) → (start : TerminalState) → IsState (abilities profile) start → (old new : Draft) → old.keeps ≡ true → old.ops.items ≡ ops → old.bytes ≡ price
     → (pen : PenView) → pen ≡ plain_pen → IsAdded profile old new (Move row 0 ∷ []) (At row 0) pen → IsBegun profile row new
-begun_is laws have profile p painter who row high wide ops made price priced start state old new keeps items bytes pen is added =
-    let first : ops ≡ resets profile = made ∙ ap painter_resets who in
-    let reset : runs profile start ops ≡ Some (made_plain start) = ap (runs profile start) first ∙ resets_run profile (have profile p) start state.pen in
-    let paid : price ≡ counted_up (length (all_bytes profile (resets profile))) = priced (laws.had profile start (made_plain start) ops reset) ∙ ap (λ o. counted_up (length (all_bytes profile o))) first in
-    let more : new.bytes ≡ counted_up (old.bytes + length (all_bytes profile (Move row 0 ∷ []))) = added.bytes (laws.had profile (made_plain start) (plain (at_place start (row, 0))) (Move row 0 ∷ []) (moved_plain have profile p row high wide start)) in
-    record {
-      keeps = added.keeps ∙ keeps;
-      ops = added.ops keeps ∙ ap (λ o. o ++ Move row 0 ∷ []) (items ∙ first);
-      bytes = omega (arith, more, paid, bytes);
-      spot_is = added.spot_is;
-      pen_is = added.pen_is ∙ is;
-    }
+begun_is laws have profile p painter who row high wide ops made price priced start state old new keeps items bytes pen is added = grind (arith, nat_tests)
 
 pub begun_right : RunLaws → ProfilesHave → (profile : ProfileView) → IsProfile profile → (picture : PictureView) → Fits profile picture → (memory : MemoryView) → (row : ℕ) → row < profile.rows → 0 < profile.columns
     → (new : Draft) → IsBegun profile row new → RightFrom profile picture memory (unsettled profile picture memory 0) new
@@ -307,28 +196,16 @@ begun_right laws have profile p picture fits memory row high wide new begun star
       bytes = begun.bytes;
       spot = sym begun.spot_is;
       pen = sym begun.pen_is;
-      shows = λ r c up left e. by r c (omega (arith, up, fits.rows)) (is_known_row memory r) refl e;
+      shows = λ r c up left e. by r c (omega (arith, up, fits.rows)) e;
     }
   where
-    by : (r c : ℕ) → r < profile.rows → (b : Bool) → is_known_row memory r ≡ b → (if b then not (look_eq (look_in memory (r, c)) (look_at profile picture (r, c))) else (if ltb r 0 then not (look_eq blank (look_at profile picture (r, c))) else true)) ≡ false
-        → grid_at blank start.grid r c ≡ look_at profile picture (r, c)
-    by r c up true known e =
-        ap (λ line. get_or line c blank) (agrees.rows r up known)
-        ∙ look_same (look_in memory (r, c)) (look_at profile picture (r, c)) (not_false (look_eq (look_in memory (r, c)) (look_at profile picture (r, c))) e)
-    by r c up false known e = never (ltb r 0) (first (ltb r 0) e) none
+    by : (r c : ℕ) → r < profile.rows → unsettled profile picture memory 0 (r, c) ≡ false → grid_at blank start.grid r c ≡ look_at profile picture (r, c)
+    by r c up e = same_is_shown profile picture memory start agrees r c up (known_same (is_known_row memory r) (look_eq (look_in memory (r, c)) (look_at profile picture (r, c))) r _ e)
       where
-        none : ltb r 0 ≡ false
-        none = grind (arith, nat_tests)
-
-        first : (b : Bool) → (if b then not (look_eq blank (look_at profile picture (r, c))) else true) ≡ false → b ≡ true
-        first true e = refl
-        first false e = (cc)
+        known_same : (known same : Bool) (r : ℕ) (other : Bool) → (if known then not same else (if ltb r 0 then other else true)) ≡ false → not (known && same) ≡ false
+        known_same known same r other e = grind (arith, nat_tests)
 
 -- what is known of the terminal then
-then_step : (first : Option TerminalState) (rest : TerminalState → Option TerminalState) (now : TerminalState) → option_and_then rest first ≡ Some now → (next : TerminalState) × (first ≡ Some next) × (rest next ≡ Some now)
-then_step None rest now e = (cc)
-then_step (Some next) rest now e = (next, refl, e)
-
 pub knows_begun : RunLaws → ProfilesHave → MemoryRuns → (profile : ProfileView) → IsProfile profile → (memory : MemoryView) → MayBe (abilities profile) memory → (row : ℕ) → row < profile.rows → 0 < profile.columns
     → (new : Draft) → IsBegun profile row new → Knows profile memory (is_known_row memory) new
 knows_begun laws have memories profile p memory may row high wide new begun =
@@ -360,46 +237,18 @@ knows_begun laws have memories profile p memory may row high wide new begun =
     now : TerminalState
     now = plain (at_place memory.state (row, 0))
 
-    two : (a b : Op) (first second : TerminalState) → step profile memory.state a ≡ Some first → step profile first b ≡ Some second
-        → all_followed profile (a ∷ b ∷ []) memory ≡ stepped (abilities profile) b (stepped (abilities profile) a memory (Some first)) (Some second)
-    two a b first second at then_at =
-        ap (λ n. followed profile b (stepped (abilities profile) a memory n)) at
-        ∙ ap (λ n. stepped (abilities profile) b (stepped (abilities profile) a memory (Some first)) n) then_at
-
     learnt_by : (sgr0 : Bool) → is_there profile Sgr0 ≡ sgr0 → runs profile memory.state ((if sgr0 then Reset ∷ [] else []) ++ Move row 0 ∷ []) ≡ Some now → Learnt ((if sgr0 then Reset ∷ [] else []) ++ Move row 0 ∷ [])
     learnt_by true there e =
-        let first = then_step (step profile memory.state Reset) (λ s. runs profile s (Move row 0 ∷ [])) now e in
-        let second = then_step (step profile first.0 (Move row 0)) (λ s. runs profile s []) now first.2 in
-        let is = two Reset (Move row 0) first.0 second.0 first.1 second.1 in
-        (ap (λ (m : MemoryView). m.known_spot) is ∙ or_true (memory.known_spot || false), ap (λ (m : MemoryView). m.known_pen) is ∙ ap (λ b. b || has_one_pen (abilities profile) || false || has_one_pen (abilities profile)) (or_true memory.known_pen), ap (λ (m : MemoryView). m.known_rows) is)
+        let first = first_step profile memory.state now Reset (Move row 0 ∷ []) e in
+        let second = first_step profile first.0 now (Move row 0) [] first.2 in
+        let at = first.1 in
+        let then_at = second.1 in
+        (grind (arith, at, then_at), grind (arith, at, then_at), grind (arith, at, then_at))
     learnt_by false there e =
-        let first = then_step (step profile memory.state (Move row 0)) (λ s. runs profile s []) now e in
-        let is : all_followed profile (Move row 0 ∷ []) memory ≡ stepped (abilities profile) (Move row 0) memory (Some first.0) = ap (λ n. stepped (abilities profile) (Move row 0) memory n) first.1 in
-        (ap (λ (m : MemoryView). m.known_spot) is ∙ or_true memory.known_spot, ap (λ (m : MemoryView). m.known_pen) is ∙ ap (λ b. memory.known_pen || false || b) (one there) ∙ or_true (memory.known_pen || false), ap (λ (m : MemoryView). m.known_rows) is)
-
--- ---- a row is erased
-
-pub row_wipes : RunLaws → GridLaws LookView → (profile : ProfileView) → IsProfile profile → (picture : PictureView) → Fits profile picture → (row : ℕ) → (old new : Draft) → has profile EraseLine ≡ true → old.spot ≡ At row 0 → is_plain_pen old.pen ≡ true
-    → IsAdded profile old new (EraseLine ∷ []) old.spot old.pen → WipesRow profile picture row old new
-row_wipes laws grids profile p picture fits row old new had here plain added waits paid first start right =
-    let now : TerminalState = right.now in
-    let next : TerminalState = erased profile.rows profile.columns (is_in_run row 0 profile.columns) now in
-    let acted : act profile now EraseLine ≡ Some next =
-    ap (λ b. if b then rest_of_line_erased profile.rows profile.columns now else None) (ap is_plain_pen right.pen ∙ plain)
-    ∙ ap (λ spot. from_place spot (λ r c. Some (erased profile.rows profile.columns (is_in_run r c profile.columns) now))) (right.spot ∙ here) in
-    drawn laws profile p (aim_of profile picture) paid first start waits (row_wiped profile picture row waits) old new (EraseLine ∷ []) refl old.spot old.pen added right next (one_run profile now next EraseLine had acted) right.spot right.pen
-    (λ r c up left e.
-    grids.formula blank profile.rows profile.columns (λ r c. if is_in_run row 0 profile.columns r c then blank else grid_at blank now.grid r c) r c (omega (arith, up, fits.rows)) (omega (arith, left, fits.columns))
-    ∙ ap (λ b. if b then blank else grid_at blank now.grid r c) (inside r c (omega (arith, left, fits.columns)))
-    ∙ by r c (r == row) (λ w. right.shows r c up left w) e)
-  where
-    inside : (r c : ℕ) → c < profile.columns → is_in_run row 0 profile.columns r c ≡ (r == row)
-    inside r c wide = grind (arith, nat_tests)
-
-    by : (r c : ℕ) (b : Bool) → (waits (r, c) ≡ false → grid_at blank right.now.grid r c ≡ look_at profile picture (r, c)) → (if b then not (look_eq blank (look_at profile picture (r, c))) else waits (r, c)) ≡ false
-        → (if b then blank else grid_at blank right.now.grid r c) ≡ look_at profile picture (r, c)
-    by r c true was e = look_same blank (look_at profile picture (r, c)) (not_false (look_eq blank (look_at profile picture (r, c))) e)
-    by r c false was e = was e
+        let first = first_step profile memory.state now (Move row 0) [] e in
+        let at = first.1 in
+        let only = one there in
+        (grind (arith, at), grind (arith, at, only), grind (arith, at))
 
 -- ---- one row more
 
@@ -407,64 +256,27 @@ row_wipes laws grids profile p picture fits row old new had here plain added wai
 pub unknown_wiped : (profile : ProfileView) (picture : PictureView) (memory : MemoryView) (row : ℕ) (old new : Draft) → is_known_row memory row ≡ false → WipesRow profile picture row old new
     → Keeps profile picture (unsettled profile picture memory row) (unsettled profile picture memory (row + 1)) old new
 unknown_wiped profile picture memory row old new unknown wipes paid first start right =
-    weaker profile picture (row_wiped profile picture row (unsettled profile picture memory row)) (unsettled profile picture memory (row + 1)) new (λ place e. by place (place.0 == row) refl (is_known_row memory place.0) refl e) paid first start
+    weaker profile picture (row_wiped profile picture row (unsettled profile picture memory row)) (unsettled profile picture memory (row + 1)) new (λ place e. grind (arith, nat_tests)) paid first start
     (wipes (unsettled profile picture memory row) paid first start right)
-  where
-    by : (place : ℕ × ℕ) (t : Bool) → (place.0 == row) ≡ t → (b : Bool) → is_known_row memory place.0 ≡ b → (if b then not (look_eq (look_in memory place) (look_at profile picture place)) else (if ltb place.0 (row + 1) then not (look_eq blank (look_at profile picture place)) else true)) ≡ false
-        → (if t then not (look_eq blank (look_at profile picture place)) else (if b then not (look_eq (look_in memory place) (look_at profile picture place)) else (if ltb place.0 row then not (look_eq blank (look_at profile picture place)) else true))) ≡ false
-    by place true same true at e = let here : row ≡ place.0 = grind (arith, nat_tests) in never (is_known_row memory place.0) at (ap (is_known_row memory) (sym here) ∙ unknown)
-    by place true same false at e =
-        let under : ltb place.0 (row + 1) ≡ true = grind (arith, nat_tests) in
-        sym (ap (λ t. if t then not (look_eq blank (look_at profile picture place)) else true) under) ∙ e
-    by place false same true at e = e
-    by place false same false at e =
-        let alike : ltb place.0 row ≡ ltb place.0 (row + 1) = grind (arith, nat_tests) in
-        ap (λ t. if t then not (look_eq blank (look_at profile picture place)) else true) alike ∙ e
 
 -- the last rows, of which none was known, and which were erased at once
 pub rest_wiped : (profile : ProfileView) (picture : PictureView) (memory : MemoryView) (top : ℕ) (old mid new : Draft) → memory.rows ≡ picture.rows → AreUnknown memory top → KeepsAll profile picture old mid → Wipes profile picture top mid new
     → Keeps profile picture (unsettled profile picture memory top) (unsettled profile picture memory picture.rows) old new
 rest_wiped profile picture memory top old mid new high unknown reached wipes paid first start right =
-    weaker_inside profile picture (wiped profile picture top (unsettled profile picture memory top)) (unsettled profile picture memory picture.rows) new (λ r c under wide e. by r c under (leb top r) refl (is_known_row memory r) refl e) paid first start
+    weaker_inside profile picture (wiped profile picture top (unsettled profile picture memory top)) (unsettled profile picture memory picture.rows) new (λ r c under wide e. grind (arith, nat_tests, unknown r)) paid first start
     (wipes (unsettled profile picture memory top) paid first start (reached (unsettled profile picture memory top) paid first start right))
-  where
-    by : (r c : ℕ) → r < picture.rows → (t : Bool) → leb top r ≡ t → (b : Bool) → is_known_row memory r ≡ b → (if b then not (look_eq (look_in memory (r, c)) (look_at profile picture (r, c))) else (if ltb r picture.rows then not (look_eq blank (look_at profile picture (r, c))) else true)) ≡ false
-        → (if t then not (look_eq blank (look_at profile picture (r, c))) else (if b then not (look_eq (look_in memory (r, c)) (look_at profile picture (r, c))) else (if ltb r top then not (look_eq blank (look_at profile picture (r, c))) else true))) ≡ false
-    by r c under true low true at e =
-        let here : top ≤ r = grind (arith, nat_tests) in
-        never (is_known_row memory r) at (unknown r here (omega (arith, under, high)))
-    by r c under true low false at e =
-        let is : ltb r picture.rows ≡ true = grind (arith, nat_tests) in
-        sym (ap (λ t. if t then not (look_eq blank (look_at profile picture (r, c))) else true) is) ∙ e
-    by r c under false low true at e = e
-    by r c under false low false at e =
-        let alike : ltb r top ≡ ltb r picture.rows = grind (arith, nat_tests) in
-        ap (λ t. if t then not (look_eq blank (look_at profile picture (r, c))) else true) alike ∙ e
 
 pub rest_more : (known : ℕ → Bool) (top rows n r : ℕ) → rows ≡ n → or_below known n r ≡ true → or_from (or_below known top) top rows r ≡ true
-rest_more known top rows n r same e = by (known r) e
-  where
-    by : (b : Bool) → (b || ltb r n) ≡ true → ((b || ltb r top) || (leb top r && ltb r rows)) ≡ true
-    by true e = refl
-    by false e = grind (arith, nat_tests)
+rest_more known top rows n r same e = grind (arith, nat_tests)
 
-pub below_more : (known : ℕ → Bool) (row r : ℕ) → or_below known (row + 1) r ≡ true → or_row (or_below known row) row r ≡ true
-below_more known row r e = by (known r) e
-  where
-    by : (b : Bool) → (b || ltb r (row + 1)) ≡ true → ((b || ltb r row) || r == row) ≡ true
-    by true e = refl
-    by false e = grind (arith, nat_tests)
+pub below_row : (known : ℕ → Bool) (row r : ℕ) → or_below known (row + 1) r ≡ true → or_row (or_below known row) row r ≡ true
+below_row known row r e = grind (arith, nat_tests)
 
 -- ---- what is found
 
 pub one_row_unsettled : (profile : ProfileView) (picture : PictureView) (memory : MemoryView) (some more : List Run) (row : ℕ) → KeepsRuns some more → HasUnsettled profile picture memory some row → HasUnsettledIn profile picture memory more row → HasUnsettled profile picture memory more (row + 1)
-one_row_unsettled profile picture memory some more row keeps above own r high c wide e = by (r == row) refl
-  where
-    by : (b : Bool) → (r == row) ≡ b → unsettled profile picture memory picture.rows (r, c) ≡ false
-    by true at =
-        let here : row ≡ r = grind (arith, nat_tests) in
-        subst (λ r. in_runs more (r, c) ≡ false → unsettled profile picture memory picture.rows (r, c) ≡ false) here (own c wide) e
-    by false at = let under : r < row = grind (arith, nat_tests) in above r under c wide (not_in (in_runs some (r, c)) (in_runs more (r, c)) (keeps (r, c)) e)
+one_row_unsettled profile picture memory some more row keeps above own =
+    below_more (HasUnsettledIn profile picture memory more) row (λ r under c wide e. above r under c wide (not_in (in_runs some (r, c)) (in_runs more (r, c)) (keeps (r, c)) e)) own
 
 -- ---- at the end
 
@@ -488,20 +300,9 @@ partly_done run_laws have laws profile p picture fits memory runs found old mid 
       let state : m.state ≡ there.now = ap (λ o. (all_followed profile o memory).state) there.ops ∙ laws.state profile memory there.now (first ++ there.own) run in
       let rows : list_all (λ known. known) m.known_rows ≡ true = all_known profile.rows m.known_rows (sym here.may.high) (λ r below. here.rows r (low r (omega (arith, below, fits.rows)))) in
       let known : is_known m ≡ true = (λ i. rows i && here.known_spot i && here.known_pen i) in
-      let right : IsRight profile picture mid.bytes mid.ops.items m.state (in_runs []) new =
-      painted mid.bytes mid.ops.items m.state (record {
-        keeps = here.keeps;
-        own = [];
-        ops = sym (append-nil mid.ops.items);
-        now = m.state;
-        run = refl;
-        calm = refl;
-        state = here.may.state;
-        bytes = here.bytes ∙ omega arith;
-        spot = here.spot;
-        pen = here.pen;
-        shows = λ r c high wide e. ap (λ s. grid_at blank s.grid r c) state ∙ there.shows r c high wide e;
-      }) in
+      let right = painted mid.bytes mid.ops.items m.state
+      (begun_aimed profile (aim_of profile picture) mid.bytes mid.ops.items m.state (in_runs runs) mid here.keeps refl here.may.state here.bytes here.spot here.pen
+      (λ r c high wide e. ap (λ s. grid_at blank s.grid r c) state ∙ there.shows r c high wide e)) in
       ap (λ o. is_known (all_followed profile o memory)) right.ops ∙ ap is_known (laws.joined profile memory mid.ops.items right.own)
       ∙ laws.stays_known profile p m here.may m.state right.now right.own (agrees_itself (abilities profile) m here.may) right.run known;
 }
@@ -516,10 +317,9 @@ partly_done run_laws have laws profile p picture fits memory runs found old mid 
     settled = weaker_inside profile picture (unsettled profile picture memory picture.rows) (in_runs runs) mid (λ r c high wide e. found r high c wide e)
 
     low : (r : ℕ) → r < picture.rows → (is_known_row memory r || ltb r picture.rows) ≡ true
-    low r below = let under : ltb r picture.rows ≡ true = grind (arith, nat_tests) in ap (λ b. is_known_row memory r || b) under ∙ or_true (is_known_row memory r)
+    low r below = grind (arith, nat_tests)
 
 -- ---- answers
 
 pub if_ok_then : {E : Type 0} (r : Result Bool E) (P Q : Type 0) → (P → Q) → IfOk r (λ done. done ≡ true → P) → IfOk r (λ done. done ≡ true → Q)
-if_ok_then (Ok done) P Q f h = λ e. f (h e)
-if_ok_then (Err e) P Q f h = h
+if_ok_then r P Q f h = grind (arith, nat_tests)

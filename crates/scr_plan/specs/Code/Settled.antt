@@ -1,5 +1,5 @@
 -- Settling rows one after another, once rows were shifted: a settled row shows the picture, except in its runs.
-use Rattle.std.specs.Prelude.{ℕ, ◌≡◌, ◌<◌, ◌≤◌, ◌&&◌, ltb, leb, Bool, true, false, List, Option, Some, None, if◌then◌else◌}
+use Rattle.std.specs.Prelude.{ℕ, ◌≡◌, ◌<◌, ◌≤◌, ◌&&◌, ltb, leb, Bool, false, List, Option, Some, None, if◌then◌else◌}
 use Rattle.scr_cells.specs.Grids.{grid_at, places_left, places_right}
 use Rattle.scr_cells.specs.LookViews.{LookView, blank}
 use Rattle.scr_cells.specs.PictureViews.{PictureView}

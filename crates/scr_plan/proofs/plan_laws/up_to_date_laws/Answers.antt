@@ -1,4 +1,4 @@
-use Rattle.scr_plan.proofs.UpToDateLaws as laws
+use Rattle.scr_plan.proofs.RememberedPlanLaws as laws
 use Rattle.scr_plan.proofs.plan_laws.up_to_date_laws.Goals as goal
 
 pub returns : goal.returns

@@ -1,4 +1,4 @@
-use Rattle.scr_plan.proofs.CountLaws as laws
+use Rattle.scr_plan.proofs.ScratchLaws as laws
 use Rattle.scr_plan.proofs.scratch_laws.scratch_is_bounded.Goals as goal
 
 pub returns : goal.returns

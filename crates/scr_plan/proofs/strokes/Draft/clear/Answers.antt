@@ -4,4 +4,4 @@ use Rattle.scr_plan.proofs.strokes.Draft.clear.Goals as goal
 
 pub returns-clause-done : goal.returns-clause-done
 returns-clause-done c = λ _.
-    clear_wipes c.run_laws.ensures c.profiles_have.ensures c.grid_laws.ensures c.args.scene.now.profile.now c.size-size.ensures.profile c.args.scene.now.picture.now c.requires.scene.fits c.args.self.now c.add.new.self (search rules) c.in_ok-add.ensures
+    clear_wipes c.run_laws.ensures c.profiles_have.ensures c.grid_laws.ensures _ c.size-size.ensures.profile _ c.requires.scene.fits c.args.self.now c.add.new.self (search rules) c.in_ok-add.ensures

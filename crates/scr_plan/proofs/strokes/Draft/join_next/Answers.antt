@@ -11,8 +11,7 @@ returns-then-is_shown_in-clause-all c =
     passed_goes c.args.scene.now.profile.now c.args.scene.now.painter c.args.scene.now.picture.now before c.args.line.now.row c.args.column c.unlike_from-next.result c.args.self.now more
     (one_and_more c.args.scene.now.painter c.args.scene.now.picture.now before c.args.line.now.row c.args.column c.unlike_from-next.result
     (place_shown c.args.scene.now.painter c.args.scene.now.picture.now c.args.line.now.row before c.args.column c.args.line.now.cells.now c.seen_in-byte.result.0 c.seen_in-byte.result.1 c.requires.line.cells c.seen_in-byte.ensures.byte c.seen_in-byte.ensures.pen
-    (sym c.is_shown_in.ensures ∙ shown))
-    c.unlike_from-next.ensures.same)
+    (sym c.is_shown_in.ensures ∙ shown)) c.unlike_from-next.ensures.same)
 
 pub returns-then-is_shown_in-clause-left : goal.returns-then-is_shown_in-clause-left
 returns-then-is_shown_in-clause-left c =
@@ -22,11 +21,10 @@ returns-then-is_shown_in-clause-left c =
     sym (passed c.args.scene.now.painter c.args.scene.now.picture.now before c.args.line.now.row c.args.column c.unlike_from-next.result more
     (one_and_more c.args.scene.now.painter c.args.scene.now.picture.now before c.args.line.now.row c.args.column c.unlike_from-next.result
     (place_shown c.args.scene.now.painter c.args.scene.now.picture.now c.args.line.now.row before c.args.column c.args.line.now.cells.now c.seen_in-byte.result.0 c.seen_in-byte.result.1 c.requires.line.cells c.seen_in-byte.ensures.byte c.seen_in-byte.ensures.pen
-    (sym c.is_shown_in.ensures ∙ shown))
-    c.unlike_from-next.ensures.same)).1
+    (sym c.is_shown_in.ensures ∙ shown)) c.unlike_from-next.ensures.same)).1
 
 pub join_write-requires-clause-byte : goal.join_write-requires-clause-byte
-join_write-requires-clause-byte c = byte_is c.args.scene.now.picture.now c.size-size.ensures.picture c.args.line.now.row c.args.column c.args.line.now.cells.now c.seen_in-byte.result.0 c.requires.line.cells c.seen_in-byte.ensures.byte
+join_write-requires-clause-byte c = byte_is _ c.size-size.ensures.picture c.args.line.now.row c.args.column c.args.line.now.cells.now c.seen_in-byte.result.0 c.requires.line.cells c.seen_in-byte.ensures.byte
 
 pub returns-then-self-clause-left : goal.returns-then-self-clause-left
 returns-then-self-clause-left c =
@@ -43,8 +41,7 @@ returns-then-self-clause-all c =
     let unlike : c.is_shown_in.result ≡ false = search rules in
     painted_goes c.args.scene.now.profile.now c.args.scene.now.painter c.args.scene.now.picture.now before c.args.line.now.row c.args.column c.args.self.now c.join_write.new.self c.args.left (record { byte = c.seen_in-byte.result.0; pen = c.seen_in-byte.result.1 })
     (place_shown c.args.scene.now.painter c.args.scene.now.picture.now c.args.line.now.row before c.args.column c.args.line.now.cells.now c.seen_in-byte.result.0 c.seen_in-byte.result.1 c.requires.line.cells c.seen_in-byte.ensures.byte c.seen_in-byte.ensures.pen
-    (sym c.is_shown_in.ensures ∙ unlike))
-    c.requires.left
+    (sym c.is_shown_in.ensures ∙ unlike)) c.requires.left
     (differs_by c.args.scene.now.painter c.args.scene.now.picture.now c.args.line.now.row before c.args.column c.args.line.now.cells.now c.seen_in-byte.result.0 c.seen_in-byte.result.1 c.requires.line.cells c.seen_in-byte.ensures.byte c.seen_in-byte.ensures.pen)
     c.in_ok-join_write.ensures.all
 

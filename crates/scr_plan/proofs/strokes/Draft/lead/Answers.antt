@@ -1,7 +1,7 @@
 use Rattle.std.proofs.Common.{append_assoc, refl, rules, ◌∙◌}
 use Rattle.scr_plan.specs.Code.Painters.{painter_goes}
 use Rattle.scr_plan.specs.Scratch.{renders}
-use Rattle.scr_plan.proofs.DraftLaws.{counted}
+use Rattle.scr_plan.proofs.JoiningLaws.{counted}
 use Rattle.scr_plan.proofs.strokes.Draft.lead.Goals as goal
 
 pub returns : goal.returns

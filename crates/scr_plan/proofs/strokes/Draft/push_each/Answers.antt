@@ -6,7 +6,7 @@ use Rattle.scr_plan.proofs.strokes.Draft.push_each.Goals as goal
 
 pub loop-place-init : goal.loop-place-init
 loop-place-init c = record {
-  put = put_none c.args.scene.now.profile.now c.args.scene.now.picture.now c.requires.scene.fits c.args.row c.args.column (omega (arith, c.requires.column, c.requires.end)) c.args.self.now _ c.requires.spot c.in_ok-reserve.ensures.items refl refl refl refl;
+  put = put_none c.args.scene.now.profile.now _ c.requires.scene.fits c.args.row c.args.column (omega (arith, c.requires.column, c.requires.end)) c.args.self.now _ c.requires.spot c.in_ok-reserve.ensures.items refl refl refl refl;
   room = omega (arith, c.in_ok-reserve.ensures.ok, c.in_ok-reserve.ensures.len, c.requires.column);
 }
 
@@ -18,7 +18,7 @@ loop-place-preserved c =
     let low : c.args.column ≤ c.loop-place.place = c.loop-place.auto.place in
     record {
       put =
-          put_more c.run_laws.ensures c.profiles_have.ensures c.grid_laws.ensures c.args.scene.now.profile.now c.size-size.ensures.profile c.args.scene.now.picture.now c.size-picture.ensures.picture c.requires.scene.fits c.args.scene.now.painter c.requires.scene.painter c.args.row c.args.column c.loop-place.place
+          put_more c.run_laws.ensures c.profiles_have.ensures c.grid_laws.ensures _ c.size-size.ensures.profile _ c.size-picture.ensures.picture c.requires.scene.fits _ c.requires.scene.painter c.args.row c.args.column c.loop-place.place
           c.requires.row low (omega (arith, c.loop-place-test.true, c.requires.end)) c.byte.result c.args.self.now c.loop-place.self _ (c.requires.pen c.loop-place.place low c.loop-place-test.true)
           (c.byte.ensures.value ∙ ap (λ cell. cell.byte) c.cell_in.ensures ∙ ap (λ look. look.byte) (look_by c.args.scene.now.painter c.args.scene.now.picture.now c.args.row c.loop-place.place c.row-cells.result.now c.row-cells.ensures.cells))
           c.push_reserved.ensures.items refl refl refl refl c.loop-place.invariant.put;

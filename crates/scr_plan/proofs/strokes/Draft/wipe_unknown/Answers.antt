@@ -1,5 +1,5 @@
 use Rattle.std.proofs.Common.{◌≡◌, arith, subst}
-use Rattle.scr_plan.specs.Code.Drafts.{IsRight, Keeps, unsettled}
+use Rattle.scr_plan.specs.Code.Drafts.{IsRight, unsettled}
 use Rattle.scr_plan.proofs.UnknownRowLaws.{if_ok_then}
 use Rattle.scr_plan.proofs.strokes.Draft.wipe_unknown.Goals as goal
 
@@ -9,6 +9,5 @@ returns-clause-right c =
     let picture = c.args.scene.now.picture.now in
     let waits = unsettled profile picture c.args.memory.now in
     let done : c.loop-row.row ≡ c.top_of_rest-top.result = omega (arith, c.loop-row.auto.row-end, c.loop-row-test.false) in
-    if_ok_then c.wipe_rest.result (Keeps profile picture (waits c.top_of_rest-top.result) (waits picture.rows) c.loop-row.self c.wipe_rest.new.self) (Keeps profile picture (waits 0) (waits picture.rows) c.args.self.now c.wipe_rest.new.self)
-    (λ keeps paid first start right. keeps paid first start (subst (λ n. IsRight profile picture paid first start (waits n) c.loop-row.self) done (c.loop-row.invariant.right paid first start right)))
+    if_ok_then _ _ _ (λ keeps paid first start right. keeps paid first start (subst (λ n. IsRight profile picture paid first start (waits n) c.loop-row.self) done (c.loop-row.invariant.right paid first start right)))
     c.wipe_rest.ensures.right
