@@ -32,7 +32,7 @@ use Rattle.scr_plan.specs.Scratch.{PlaceIsPainted, goes, look_at, paints_place, 
 pub then_same : RunLaws → (profile : ProfileView) (old other : TerminalState) (xs ys more others : List Op) → runs profile old xs ≡ runs profile other ys
     → ((next : TerminalState) → runs profile other ys ≡ Some next → runs profile next more ≡ runs profile next others)
     → runs profile old (xs ++ more) ≡ runs profile other (ys ++ others)
-then_same laws profile old other xs ys more others first second = grind (arith, nat_tests)
+then_same laws profile old other xs ys more others first second = grind arith
 
 -- ---- one place after its neighbour
 
@@ -45,7 +45,7 @@ put_is_place have place_law profile p picture k r c high wide old s spot pen =
     let look : LookView = look_at profile picture (r, suc c) in
     let is : IsCell (grid_at blank_cell picture.lines r (suc c)) = cell_of picture.lines r (suc c) (recursion_from_All (All IsCell) picture.lines k.cells) in
     let next : c + 1 ≡ suc c = omega arith in
-    let more : nat_lt (c + 1) profile.columns ≡ true = grind (arith, nat_tests, wide) in
+    let more : nat_lt (c + 1) profile.columns ≡ true = grind (arith, wide) in
     let there : old.spot ≡ At r (suc c) = spot ∙ ap (λ b. if b then At r (c + 1) else Margin r) more ∙ ap (At r) next in
     let new : TerminalState = record { grid = grid_with old.grid r (suc c) look; spot = spot_after profile.columns r (suc c); pen = look.pen } in
     let acts : act profile old (Put look.byte) ≡ Some new =
@@ -75,7 +75,7 @@ behind_last laws place_law profile p picture k d r m high wide differs old new s
   where
     same : (new : TerminalState) {grid : List (List LookView)} {spot : Spot} → Some new ≡ Some (record { grid = grid; spot = spot; pen = (look_at profile picture (r, m)).pen })
         → (new.spot ≡ spot) × (new.pen ≡ (look_at profile picture (r, m)).pen)
-    same new {grid} {spot} e = grind (arith, nat_tests)
+    same new {grid} {spot} e = grind arith
 
 -- one place in either way
 one_same : RunLaws → ProfilesHave → PlaceIsPainted → (profile : ProfileView) → IsProfile profile → (picture : PictureView) → IsPicture picture → (memory : MemoryView)
@@ -120,4 +120,4 @@ row_same laws have place_law profile p picture k memory r (suc n) high wide old 
     by : (b : Bool) → (between : TerminalState) → runs profile between (brief_place profile picture memory (r, n)) ≡ runs profile between (paints_place profile picture (r, n))
         → runs profile between (flat_map (brief_place profile picture memory) (if b then (r, n) ∷ [] else []))
         ≡ runs profile between (flat_map (paints_place profile picture) (if b then (r, n) ∷ [] else []))
-    by b between same = grind (arith, nat_tests)
+    by b between same = grind arith

@@ -145,7 +145,7 @@ covers_keep profile picture covers old new one waits paid first start right = we
 
 -- no place of an empty part
 pub covers_none : (profile : ProfileView) (picture : PictureView) (row column : ℕ) (draft : Draft) → Covers profile picture (in_part row column column) draft draft
-covers_none profile picture row column draft waits = weaker profile picture waits (without (in_part row column column) waits) draft (λ place e. grind (arith, nat_tests))
+covers_none profile picture row column draft waits = weaker profile picture waits (without (in_part row column column) waits) draft (λ place e. grind arith)
 
 -- ---- a place is painted
 
@@ -189,7 +189,7 @@ put_covers laws have grids profile p picture k fits painter who row column high 
     ∙ covered (is_here r c (row, column)) (waits (r, c)) (in_part row column (column + 1) (r, c)) shown _ _ e (right.shows r c up left) (in_one row column r c) (λ at. same ∙ own_look profile picture (row, column) r c at))
   where
     in_one : (row column r c : ℕ) → in_part row column (column + 1) (r, c) ≡ true → is_here r c (row, column) ≡ true
-    in_one row column r c inside = grind (arith, nat_tests)
+    in_one row column r c inside = grind arith
 
 -- ---- places are painted one after another
 
@@ -197,7 +197,7 @@ put_covers laws have grids profile p picture k fits painter who row column high 
 pub covers_joined : (profile : ProfileView) (picture : PictureView) (row from column next : ℕ) (old mid new : Draft) → from ≤ column → column ≤ next → Covers profile picture (in_part row from column) old mid
     → Covers profile picture (in_part row column next) mid new → Covers profile picture (in_part row from next) old new
 covers_joined profile picture row from column next old mid new low high one other waits paid first start right =
-    weaker profile picture (without (in_part row column next) (without (in_part row from column) waits)) (without (in_part row from next) waits) new (λ place e. grind (arith, nat_tests)) paid first start
+    weaker profile picture (without (in_part row column next) (without (in_part row from column) waits)) (without (in_part row from next) waits) new (λ place e. grind arith) paid first start
     (other (without (in_part row from column) waits) paid first start (one waits paid first start right))
 
 pub put_none : (profile : ProfileView) (picture : PictureView) → Fits profile picture → (row column : ℕ) → column < picture.columns → (old now : Draft) → old.spot ≡ At row column
@@ -210,7 +210,7 @@ put_none profile picture fits row column wide old now here items keeps bytes spo
   covers = λ waits paid first start right.
       let none : Draft = behind_them profile.columns row column column old now in
       covers_none profile picture row column none waits paid first start
-      (aimed_alike profile (aim_of profile picture) paid first start waits old none items refl (omega (arith, right.bytes)) (grind (arith, nat_tests, wide, fits.columns)) refl right);
+      (aimed_alike profile (aim_of profile picture) paid first start waits old none items refl (omega (arith, right.bytes)) (grind (arith, wide, fits.columns)) refl right);
 }
 
 pub put_more : RunLaws → ProfilesHave → GridLaws LookView → (profile : ProfileView) → IsProfile profile → (picture : PictureView) → IsPicture picture → Fits profile picture → (painter : Painter) → painter ≡ painter_of profile → (row column place : ℕ) → row < picture.rows → column ≤ place → place < picture.columns
@@ -239,13 +239,13 @@ put_more laws have grids profile p picture k fits painter who row column place h
     next = behind_them profile.columns row column (place + 1) old new
 
     here : mid.spot ≡ At row place
-    here = grind (arith, nat_tests, wide, fits.columns)
+    here = grind (arith, wide, fits.columns)
 
 -- they are counted
 pub put_counted : (profile : ProfileView) (picture : PictureView) (row column end : ℕ) → column < end → (old now new : Draft) → new.ops ≡ now.ops → new.keeps ≡ now.keeps → new.bytes ≡ counted_up (old.bytes + (end - column)) → new.spot ≡ spot_after profile.columns row (end - 1) → new.pen ≡ now.pen
     → IsPut profile picture row column end old now → Covers profile picture (in_part row column end) old new
 put_counted profile picture row column end more old now new ops keeps bytes spot pen put waits paid first start right =
-    aimed_alike profile (aim_of profile picture) paid first start (without (in_part row column end) waits) (behind_them profile.columns row column end old now) new (ap (λ ops. ops.items) ops) (keeps ∙ put.keeps) bytes (grind (arith, nat_tests)) (pen ∙ put.pen)
+    aimed_alike profile (aim_of profile picture) paid first start (without (in_part row column end) waits) (behind_them profile.columns row column end old now) new (ap (λ ops. ops.items) ops) (keeps ∙ put.keeps) bytes (grind arith) (pen ∙ put.pen)
     (put.covers waits paid first start right)
 
 -- nothing is promised of a draft that is only counted
@@ -272,8 +272,8 @@ erasure_covers laws grids profile p picture fits row column end covers old new o
   where
     shown : (r c : ℕ) → c < picture.columns → is_in_run row column end r c ≡ true → blank ≡ look_at profile picture (r, c)
     shown r c left at =
-        let row_is : r ≡ row = grind (arith, nat_tests) in
-        sym (ap (λ r. look_at profile picture (r, c)) row_is ∙ look_same (look_at profile picture (row, c)) blank (blanks c (grind (arith, nat_tests)) (grind (arith, nat_tests)) left))
+        let row_is : r ≡ row = grind arith in
+        sym (ap (λ r. look_at profile picture (r, c)) row_is ∙ look_same (look_at profile picture (row, c)) blank (blanks c (grind arith) (grind arith) left))
 
 -- the rest of a line
 pub line_covers : RunLaws → GridLaws LookView → (profile : ProfileView) → IsProfile profile → (picture : PictureView) → Fits profile picture → (painter : Painter) → painter ≡ painter_of profile → (row column end : ℕ) → (old new : Draft)
@@ -283,7 +283,7 @@ line_covers laws grids profile p picture fits painter who row column end old new
     erasure_covers laws grids profile p picture fits row column profile.columns (in_part row column end) old new EraseLine refl
     (λ state at with. erases_line profile state row column at with)
     had here plain (λ c low high wide. ap (λ painter. look_eq (painter_look painter picture (row, c)) blank) (sym who) ∙ blanks c low wide)
-    (λ place wide e. grind (arith, nat_tests, wide, fits.columns)) added
+    (λ place wide e. grind (arith, wide, fits.columns)) added
 
 -- so many characters
 pub chars_covers : RunLaws → GridLaws LookView → (profile : ProfileView) → IsProfile profile → (picture : PictureView) → Fits profile picture → (painter : Painter) → painter ≡ painter_of profile → (row column end : ℕ) → column < end → end ≤ picture.columns → (old new : Draft)
@@ -291,7 +291,7 @@ pub chars_covers : RunLaws → GridLaws LookView → (profile : ProfileView) →
     → IsAdded profile old new (EraseChars (end - column) ∷ []) old.spot old.pen → Covers profile picture (in_part row column end) old new
 chars_covers laws grids profile p picture fits painter who row column end order wide old new had here plain blanks added =
     let back : column + (end - column) ≡ end = omega (arith, order) in
-    let narrow : nat_le (column + (end - column)) profile.columns ≡ true = grind (arith, nat_tests, wide, fits.columns) in
+    let narrow : nat_le (column + (end - column)) profile.columns ≡ true = grind (arith, wide, fits.columns) in
     erasure_covers laws grids profile p picture fits row column end (in_part row column end) old new (EraseChars (end - column)) refl
     (λ state at with. ap (λ b. if b then characters_erased profile.rows profile.columns state (end - column) else None) with
     ∙ ap (λ spot. from_place spot (λ r c. if nat_le (c + (end - column)) profile.columns then Some (erased profile.rows profile.columns (is_in_run r c (c + (end - column))) state) else None)) at
@@ -304,4 +304,4 @@ chars_covers laws grids profile p picture fits painter who row column end order 
 -- a run up to the last column
 pub run_inside : (profile : ProfileView) (picture : PictureView) (run : Run) (end : ℕ) (old new : Draft) → ((c : ℕ) → c < picture.columns → c < run.end → c < end) → Covers profile picture (in_part run.row run.start end) old new → Covers profile picture (is_in run) old new
 run_inside profile picture run end old new ends covers waits paid first start before =
-    weaker_inside profile picture (without (in_part run.row run.start end) waits) (without (is_in run) waits) new (λ r c high wide e. grind (arith, nat_tests, ends c)) paid first start (covers waits paid first start before)
+    weaker_inside profile picture (without (in_part run.row run.start end) waits) (without (is_in run) waits) new (λ r c high wide e. grind (arith, ends c)) paid first start (covers waits paid first start before)

@@ -27,28 +27,28 @@ use Rattle.scr_plan.proofs.PartLaws.{read_any}
 
 pub differs_same : (profile : ProfileView) (picture : PictureView) (memory : MemoryView) (row : ℕ) (before : Option (List LookView)) → ShowsRow memory row before
     → (c : ℕ) → row_differs (painter_of profile) picture before (row, c) ≡ differs profile picture memory (row, c)
-differs_same profile picture memory row before shows c = grind (arith, nat_tests)
+differs_same profile picture memory row before shows c = grind arith
 
 -- a place joins its left neighbour, by the pen of that if it is painted
 pub joins_same : (profile : ProfileView) (picture : PictureView) (memory : MemoryView) (row : ℕ) (before : Option (List LookView)) → ShowsRow memory row before
     → (c : ℕ) → is_that_pen (pen_before (painter_of profile) picture before row c) (look_at profile picture (row, c)).pen ≡ joins_left profile picture memory row c
 joins_same profile picture memory row before shows zero = refl
-joins_same profile picture memory row before shows (suc c) = grind (arith, nat_tests)
+joins_same profile picture memory row before shows (suc c) = grind arith
 
 paints_same : (profile : ProfileView) (picture : PictureView) (memory : MemoryView) (row : ℕ) (before : Option (List LookView)) → ShowsRow memory row before
     → (c : ℕ) → row_paints (painter_of profile) picture before (row, c) ≡ brief_place profile picture memory (row, c)
-paints_same profile picture memory row before shows c = grind (arith, nat_tests, joins_same)
+paints_same profile picture memory row before shows c = grind (arith, joins_same)
 
 -- the same places of a row pass, and each adds the same
 part_same : (f g : ℕ × ℕ → List Op) (d e : ℕ × ℕ → Bool) (row : ℕ) → ((c : ℕ) → f (row, c) ≡ g (row, c)) → ((c : ℕ) → d (row, c) ≡ e (row, c)) → (a n : ℕ)
     → flat_map f (filter d (part_places a n row)) ≡ flat_map g (filter e (part_places a n row))
 part_same f g d e row adds passes a zero = refl
-part_same f g d e row adds passes a (suc n) = grind (arith, nat_tests, part_same f g d e row adds passes (a + 1) n)
+part_same f g d e row adds passes a (suc n) = grind (arith, part_same f g d e row adds passes (a + 1) n)
 
 pub row_is_brief : (profile : ProfileView) (picture : PictureView) (memory : MemoryView) (row : ℕ) (before : Option (List LookView)) (painter : Painter) → painter ≡ painter_of profile → ShowsRow memory row before
     → (a n : ℕ) → flat_map (row_paints painter picture before) (filter (row_differs painter picture before) (part_places a n row))
     ≡ flat_map (brief_place profile picture memory) (filter (differs profile picture memory) (part_places a n row))
-row_is_brief profile picture memory row before painter who shows a n = grind (arith, nat_tests, part_same, paints_same, differs_same)
+row_is_brief profile picture memory row before painter who shows a n = grind (arith, part_same, paints_same, differs_same)
 
 -- ---- a screen that was cleared
 
@@ -78,7 +78,7 @@ cleared_row picture row high = record { known = each_true picture.rows row high;
 pub passed : (painter : Painter) (picture : PictureView) (before : Option (List LookView)) (row column next : ℕ) → column < next
     → ((c : ℕ) → column ≤ c → c < next → row_differs painter picture before (row, c) ≡ false)
     → (filter (row_differs painter picture before) (part_places column (next - column) row) ≡ []) × (pen_before painter picture before row next ≡ None)
-passed painter picture before row column next more same = grind (arith, nat_tests, none_in_part)
+passed painter picture before row column next more same = grind (arith, none_in_part)
 
 -- the pen of a place that is painted
 pub painted : (painter : Painter) (picture : PictureView) (before : Option (List LookView)) (row column : ℕ) → row_differs painter picture before (row, column) ≡ true
@@ -92,18 +92,18 @@ painted painter picture before row column differs =
 -- a place that shows what is seen of its cell does not differ
 pub shown_same : (painter : Painter) (picture : PictureView) (row : ℕ) (before : Option (List LookView)) (c : ℕ) (cells : List CellView) → cells ≡ grid_row picture.lines row
     → shown_in before c ≡ painter_sees painter picture.pairs (get_or cells c blank_cell) → row_differs painter picture before (row, c) ≡ false
-shown_same painter picture row before c cells are same = grind (arith, nat_tests)
+shown_same painter picture row before c cells are same = grind arith
 
 -- whether a place differs, by the byte and the pen of its cell
 pub differs_by : (painter : Painter) (picture : PictureView) (row : ℕ) (before : Option (List LookView)) (c : ℕ) (cells : List CellView) (byte : ℕ) (pen : PenView) → cells ≡ grid_row picture.lines row
     → byte ≡ (painter_sees painter picture.pairs (get_or cells c blank_cell)).byte → pen ≡ (painter_sees painter picture.pairs (get_or cells c blank_cell)).pen
     → record { byte = byte; pen = pen } ≡ painter_look painter picture (row, c)
-differs_by painter picture row before c cells byte pen are is_byte is_pen = grind (arith, nat_tests)
+differs_by painter picture row before c cells byte pen are is_byte is_pen = grind arith
 
 pub place_shown : (painter : Painter) (picture : PictureView) (row : ℕ) (before : Option (List LookView)) (c : ℕ) (cells : List CellView) (byte : ℕ) (pen : PenView) → cells ≡ grid_row picture.lines row
     → byte ≡ (painter_sees painter picture.pairs (get_or cells c blank_cell)).byte → pen ≡ (painter_sees painter picture.pairs (get_or cells c blank_cell)).pen
     → {shown : Bool} → look_eq (shown_in before c) (record { byte = byte; pen = pen }) ≡ shown → row_differs painter picture before (row, c) ≡ not shown
-place_shown painter picture row before c cells byte pen are is_byte is_pen same = grind (arith, nat_tests)
+place_shown painter picture row before c cells byte pen are is_byte is_pen same = grind arith
 
 -- one place more that does not differ
 pub one_more : (painter : Painter) (picture : PictureView) (row : ℕ) (before : Option (List LookView)) (from column : ℕ)

@@ -42,12 +42,12 @@ pub record IsErasable (profile : ProfileView) (picture : PictureView) (memory : 
 
 pub all_in_range : (p : ℕ → Bool) (a n : ℕ) → list_all p (range_with_len a n) ≡ true → (k : ℕ) → a ≤ k → k < a + n → p k ≡ true
 all_in_range p a zero all k low high = absurd (omega (arith, low, high))
-all_in_range p a (suc n) all k low high = grind (arith, nat_tests, all_in_range p (a + 1) n)
+all_in_range p a (suc n) all k low high = grind (arith, all_in_range p (a + 1) n)
 
 pub blank_from : (profile : ProfileView) (picture : PictureView) (r e : ℕ) → is_blank_from profile picture r e ≡ true → (c : ℕ) → e ≤ c → c < picture.columns → look_at profile picture (r, c) ≡ blank
 blank_from profile picture r e all c low wide =
     let here = all_in_range (λ c. not (leb e c) || look_eq (look_at profile picture (r, c)) blank) 0 picture.columns all c (omega arith) (omega arith) in
-    look_same (look_at profile picture (r, c)) blank (grind (arith, nat_tests, here))
+    look_same (look_at profile picture (r, c)) blank (grind (arith, here))
 
 pub record IsFound (profile : ProfileView) (picture : PictureView) (memory : MemoryView) (r a n e : ℕ) : Type 0 where
   pub low : a ≤ e
@@ -68,12 +68,12 @@ blank_found profile picture memory r a (suc n) e found = by (differs profile pic
     by : (b : Bool) → (differs profile picture memory (r, a) && is_blank_from profile picture r a) ≡ b
         → (blank_column profile picture memory r (range_with_len (a + 1) n) ≡ Some e → IsFound profile picture memory r (a + 1) n e)
         → (if b then Some a else blank_column profile picture memory r (range_with_len (a + 1) n)) ≡ Some e → IsFound profile picture memory r a (suc n) e
-    by b h rest f = grind (arith, nat_tests)
+    by b h rest f = grind arith
 
 -- what is worth it
 pub erased_is : (profile : ProfileView) (picture : PictureView) (memory : MemoryView) (r e : ℕ) (found : Option ℕ) → erased_if_worth profile picture memory r found ≡ Some e
     → (found ≡ Some e) × (has profile EraseLine ≡ true) × (length (bytes_of profile EraseLine) ≤ differing_from profile picture memory r e)
-erased_is profile picture memory r e found worth = grind (arith, nat_tests)
+erased_is profile picture memory r e found worth = grind arith
 
 pub erasable : (profile : ProfileView) (picture : PictureView) (memory : MemoryView) (r e : ℕ) → erased_column profile picture memory r ≡ Some e → IsErasable profile picture memory r e
 erasable profile picture memory r e worth =
@@ -96,7 +96,7 @@ part_nothing f d r a (suc n) none = grind (arith, part_nothing f d r (a + 1) n)
 pub row_unerased : (profile : ProfileView) (picture : PictureView) (memory : MemoryView) (r : ℕ) → erased_column profile picture memory r ≡ None
     → flat_map (joined_at profile picture memory) (filter (differs profile picture memory) (row_places picture.columns r))
     ≡ flat_map (brief_place profile picture memory) (filter (differs profile picture memory) (part_places 0 picture.columns r))
-row_unerased profile picture memory r none = grind (arith, nat_tests, part_alike)
+row_unerased profile picture memory r none = grind (arith, part_alike)
 
 -- a row that is erased from a column on: the places before it, what leads there, and the erasure
 pub row_erased : (profile : ProfileView) (picture : PictureView) (memory : MemoryView) (r e : ℕ) → erased_column profile picture memory r ≡ Some e → e < picture.columns → differs profile picture memory (r, e) ≡ true
@@ -110,9 +110,9 @@ row_erased profile picture memory r e at inside here =
     let whole : picture.columns ≡ e + suc n = omega (arith, inside) in
     let zero_more : 0 + e ≡ e = omega arith in
     let before : flat_map f (filter d (part_places 0 e r)) ≡ flat_map g (filter d (part_places 0 e r)) = part_alike f g d r 0 e (λ c low high. rw at (grind (arith, nat_tests, high))) in
-    let behind : flat_map f (filter d (part_places (e + 1) n r)) ≡ [] = part_nothing f d r (e + 1) n (λ c low high. rw at (grind (arith, nat_tests, low))) in
+    let behind : flat_map f (filter d (part_places (e + 1) n r)) ≡ [] = part_nothing f d r (e + 1) n (λ c low high. rw at (grind (arith, low))) in
     let there : filter d (part_places e (suc n) r) ≡ (r, e) ∷ filter d (part_places (e + 1) n r) = ap (λ b. if b then (r, e) ∷ filter d (part_places (e + 1) n r) else filter d (part_places (e + 1) n r)) here in
-    let own : f (r, e) ≡ begins_place profile picture memory r e ++ EraseLine ∷ [] = rw at (grind (arith, nat_tests)) in
+    let own : f (r, e) ≡ begins_place profile picture memory r e ++ EraseLine ∷ [] = rw at (grind arith) in
     ap (λ k. flat_map f (filter d (part_places 0 k r))) whole
     ∙ rw (part_joined 0 e (suc n) r, filter-append, flat_map-append, zero_more, before, there) (ap (λ ops. flat_map g (filter d (part_places 0 e r)) ++ (f (r, e) ++ ops)) behind ∙ ap (λ ops. flat_map g (filter d (part_places 0 e r)) ++ ops) (append-nil (f (r, e)) ∙ own))
 
@@ -131,10 +131,10 @@ part_right laws place_law grids profile p picture k d row n high wide waits old 
     fewer_right profile picture _ _ old (flat_map (paints_place profile picture) list) (λ r c _ _ e. covers_waits (waits (r, c)) _ (is_among r c list) e (among d row n r c)) (each_painted laws place_law grids profile p picture k list inside waits old before)
   where
     here_same : (d : ℕ × ℕ → Bool) (r c : ℕ) (place : ℕ × ℕ) → is_here r c place ≡ true → d place ≡ d (r, c)
-    here_same d r c place e = grind (arith, nat_tests)
+    here_same d r c place e = grind arith
 
     among : (d : ℕ × ℕ → Bool) (row n r c : ℕ) → (r == row && ltb c n && d (r, c)) ≡ true → is_among r c (filter d (part_places 0 n row)) ≡ true
-    among d row n r c e = any-filter_same (is_here r c) d (d (r, c)) (here_same d r c) (part_places 0 n row) ∙ grind (arith, nat_tests, among_row row c n 0)
+    among d row n r c e = any-filter_same (is_here r c) d (d (r, c)) (here_same d r c) (part_places 0 n row) ∙ grind (arith, among_row row c n 0)
 
 -- the cursor is at a place with a plain pen, and the cells are as they were
 pub record IsAt (old new : TerminalState) (r c : ℕ) : Type 0 where
@@ -161,10 +161,10 @@ erased_right grids profile p laws picture fits memory row e can waits old at bef
     }
   where
     inside : (row r c : ℕ) → c < profile.columns → (r == row && leb e c) ≡ true → is_in_run row e profile.columns r c ≡ true
-    inside row r c wide here = grind (arith, nat_tests)
+    inside row r c wide here = grind arith
 
     shown : (r c : ℕ) → c < profile.columns → is_in_run row e profile.columns r c ≡ true → blank ≡ look_at profile picture (r, c)
-    shown r c wide here = grind (arith, nat_tests, can.blanks c, fits.columns)
+    shown r c wide here = grind (arith, can.blanks c, fits.columns)
 
 -- what leads to a place that is seen blank
 begun_at : RunLaws → ProfilesHave → PlaceIsPainted → (profile : ProfileView) → IsProfile profile → (picture : PictureView) → IsPicture picture → Fits profile picture → (memory : MemoryView) (row e : ℕ) → row < profile.rows
@@ -211,10 +211,10 @@ row_right laws have place_law grids profile p picture k fits memory row high wai
     all = flat_map (joined_at profile picture memory) (filter d (row_places picture.columns row))
 
     in_row : (waits d : Bool) (r c n : ℕ) → c < n → (waits && not (r == row && d)) ≡ false → (waits && not (r == row && ltb c n && d)) ≡ false
-    in_row waits d r c n wide e = grind (arith, nat_tests)
+    in_row waits d r c n wide e = grind arith
 
     in_either : (waits d : Bool) (r c e : ℕ) → (waits && not (r == row && d)) ≡ false → ((waits && not (r == row && ltb c e && d)) && not (r == row && leb e c)) ≡ false
-    in_either waits d r c e free = grind (arith, nat_tests)
+    in_either waits d r c e free = grind arith
 
     by : (e : Option ℕ) → erased_column profile picture memory row ≡ e → Rights profile picture (λ place. waits place && not (place.0 == row && d place)) old all
     by None at =
@@ -239,7 +239,7 @@ row_right laws have place_law grids profile p picture k fits memory row high wai
 rows_right : RunLaws → ProfilesHave → PlaceIsPainted → GridLaws LookView → (profile : ProfileView) → IsProfile profile → (picture : PictureView) → IsPicture picture → Fits profile picture → (memory : MemoryView) (n : ℕ) → n ≤ profile.rows
     → (waits : ℕ × ℕ → Bool) (old : TerminalState) → IsRight profile picture waits old
     → Rights profile picture (λ place. waits place && not (ltb place.0 n && differs profile picture memory place)) old (flat_map (joined_at profile picture memory) (filter (differs profile picture memory) (places n picture.columns)))
-rows_right laws have place_law grids profile p picture k fits memory zero high waits old before = record { new = old; run = refl; is = record { state = before.state; right = λ r c h w e. before.right r c h w (grind (arith, nat_tests, e)) } }
+rows_right laws have place_law grids profile p picture k fits memory zero high waits old before = record { new = old; run = refl; is = record { state = before.state; right = λ r c h w e. before.right r c h w (grind (arith, e)) } }
 rows_right laws have place_law grids profile p picture k fits memory (suc n) high waits old before =
     let f = joined_at profile picture memory in
     let d = differs profile picture memory in
@@ -251,16 +251,16 @@ rows_right laws have place_law grids profile p picture k fits memory (suc n) hig
     fewer_right profile picture _ _ old _ (λ r c h w e. in_either (waits (r, c)) (d (r, c)) r e) (subst (Rights profile picture _ old) (sym ops) (then_rights laws profile picture _ old first.new _ _ first.run row))
   where
     in_either : (waits d : Bool) (r : ℕ) → (waits && not (ltb r (suc n) && d)) ≡ false → ((waits && not (ltb r n && d)) && not (r == n && d)) ≡ false
-    in_either waits d r e = grind (arith, nat_tests)
+    in_either waits d r e = grind arith
 
 -- ---- steps that change nothing
 
 pub plain_is : (pen : PenView) → is_plain_pen pen ≡ true → pen ≡ plain_pen
-plain_is pen e = grind (arith, nat_tests)
+plain_is pen e = grind arith
 
 pub idle_same : (profile : ProfileView) (s next : TerminalState) (op : Op) → is_idle s op ≡ true → step profile s op ≡ Some next → next ≡ s
-idle_same profile s next Reset idle e = grind (arith, nat_tests, plain_is)
-idle_same profile s next (Move r c) idle e = grind (arith, nat_tests)
+idle_same profile s next Reset idle e = grind (arith, plain_is)
+idle_same profile s next (Move r c) idle e = grind arith
 idle_same profile s next _ idle e = (cc)
 
 -- a step that is defined, without it where it is idle
@@ -293,7 +293,7 @@ rest_shows laws have place_law grids profile p picture k fits memory old before 
     (rows_right laws have place_law grids profile p picture k fits memory picture.rows (omega (arith, fits.rows)) (differs profile picture memory) old before))
   where
     all_of : (d : Bool) (r : ℕ) → r < picture.rows → (d && not (ltb r picture.rows && d)) ≡ false
-    all_of d r high = grind (arith, nat_tests)
+    all_of d r high = grind arith
 
 -- a row of runs, put together in another way
 pub joined_assoc : {A : Type 0} (a b c d : List A) → ((a ++ b) ++ c) ++ d ≡ a ++ ((b ++ c) ++ d)
@@ -314,7 +314,7 @@ changed_shows laws have place_law grids profile p picture k fits memory old agre
 
 -- what is remembered of a cleared screen is so on a blank one
 cleared_agrees : (profile : ProfileView) (picture : PictureView) → Fits profile picture → IsState (abilities profile) (blank_state profile.rows profile.columns) → Agrees (abilities profile) (cleared picture) (blank_state profile.rows profile.columns)
-cleared_agrees profile picture fits state = grind (arith, nat_tests, agrees_itself, length-replicate)
+cleared_agrees profile picture fits state = grind (arith, agrees_itself, length-replicate)
 
 pub joined_shows : RunLaws → BlankLaws → ProfilesHave → PlaceIsPainted → GridLaws LookView → KnownMemories → JoinedShows
 joined_shows laws blanks have place_law grids remembers = record {

@@ -40,16 +40,16 @@ each_fewer measure m f g less (x ∷ xs) = omega (arith, less x, each_fewer meas
 -- fewer places
 some_fewer : (measure : List Op → ℕ) → IsMeasure measure → (f : ℕ × ℕ → List Op) (p : ℕ × ℕ → Bool) (xs : List (ℕ × ℕ)) → measure (flat_map f (filter p xs)) ≤ measure (flat_map f xs)
 some_fewer measure m f p [] = omega arith
-some_fewer measure m f p (x ∷ xs) = grind (arith, nat_tests, some_fewer measure m f p xs)
+some_fewer measure m f p (x ∷ xs) = grind (arith, some_fewer measure m f p xs)
 
 begins_less : (measure : List Op → ℕ) → IsMeasure measure → (profile : ProfileView) (picture : PictureView) (memory : MemoryView) (r c : ℕ)
     → measure (begins_place profile picture memory r c) ≤ measure (goes profile (r, c) ++ renders (look_at profile picture (r, c)).pen)
-begins_less measure m profile picture memory r c = grind (arith, nat_tests)
+begins_less measure m profile picture memory r c = grind arith
 
 -- a place takes no more after its neighbour
 brief_less : (measure : List Op → ℕ) → IsMeasure measure → (profile : ProfileView) (picture : PictureView) (memory : MemoryView) (place : ℕ × ℕ)
     → measure (brief_place profile picture memory place) ≤ measure (paints_place profile picture place)
-brief_less measure m profile picture memory place = grind (arith, nat_tests)
+brief_less measure m profile picture memory place = grind arith
 
 -- ---- by how many they are
 
@@ -58,7 +58,7 @@ count_is = record { none = refl; joined = length-append }
 
 -- an erasure is one operation, as a character is
 place_count : (profile : ProfileView) (picture : PictureView) (memory : MemoryView) (place : ℕ × ℕ) → length (joined_at profile picture memory place) ≤ length (paints_place profile picture place)
-place_count profile picture memory place = grind (arith, nat_tests, brief_less, count_is, begins_less, length-append)
+place_count profile picture memory place = grind (arith, brief_less, count_is, begins_less, length-append)
 
 -- ---- by how many bytes they have
 
@@ -66,7 +66,7 @@ abbrev pub price : ProfileView → List Op → ℕ
 price profile ops = length (all_bytes profile ops)
 
 pub price_is : RunLaws → (profile : ProfileView) → IsMeasure (price profile)
-price_is laws profile = grind (arith, nat_tests, length-append)
+price_is laws profile = grind (arith, length-append)
 
 -- a character is one byte
 pub put_price : (profile : ProfileView) (byte : ℕ) → price profile (Put byte ∷ []) ≡ 1
@@ -84,15 +84,15 @@ each_some laws profile picture (x ∷ xs) = omega (arith, each_some laws profile
 -- how many places of a part differ, and how many from a column on
 count_part : (d : ℕ × ℕ → Bool) (r e a n : ℕ) → e ≤ a → length (filter (λ c. leb e c && d (r, c)) (range_with_len a n)) ≡ length (filter d (part_places a n r))
 count_part d r e a zero low = refl
-count_part d r e a (suc n) low = grind (arith, nat_tests, count_part d r e (a + 1) n)
+count_part d r e a (suc n) low = grind (arith, count_part d r e (a + 1) n)
 
 count_before : (d : ℕ × ℕ → Bool) (r e a n m : ℕ) → a + n ≤ e → length (filter (λ c. leb e c && d (r, c)) (range_with_len a (n + m))) ≡ length (filter (λ c. leb e c && d (r, c)) (range_with_len (a + n) m))
-count_before d r e a zero m low = grind (arith, nat_tests)
+count_before d r e a zero m low = grind arith
 count_before d r e a (suc n) m low =
     let next : suc n + m ≡ suc (n + m) = omega arith in
     let more : a + 1 + n ≡ a + suc n = omega arith in
     let rest = count_before d r e (a + 1) n m (omega arith) in
-    grind (arith, nat_tests, next, more, rest)
+    grind (arith, next, more, rest)
 
 -- those that differ from a column on are those of that part
 pub count_from : (profile : ProfileView) (picture : PictureView) (memory : MemoryView) (r e : ℕ) → e ≤ picture.columns
@@ -105,7 +105,7 @@ count_from profile picture memory r e wide =
 
 -- an erasure has no more bytes than places differ
 worth_it : (profile : ProfileView) (picture : PictureView) (memory : MemoryView) (r e : ℕ) → erased_column profile picture memory r ≡ Some e → length (bytes_of profile EraseLine) ≤ differing_from profile picture memory r e
-worth_it profile picture memory r e worth = grind (arith, nat_tests)
+worth_it profile picture memory r e worth = grind arith
 
 -- a row has no more bytes than its places that differ
 row_less : RunLaws → (profile : ProfileView) (picture : PictureView) (memory : MemoryView) (r : ℕ)

@@ -48,17 +48,17 @@ idle_joined profile old next (op ∷ xs) ys run =
 
 -- operations that change something everywhere
 busy : (profile : ProfileView) (state : TerminalState) (op : Op) → ((s : TerminalState) → is_idle s op ≡ false) → (rest : List Op) → ((s : TerminalState) → without_idle profile s rest ≡ rest) → without_idle profile state (op ∷ rest) ≡ op ∷ rest
-busy profile state op never rest more = grind (arith, nat_tests)
+busy profile state op never rest more = grind arith
 
 enters_busy : (profile : ProfileView) (attributes : List ℕ) (rest : List Op) → ((s : TerminalState) → without_idle profile s rest ≡ rest) → (s : TerminalState) → without_idle profile s (map enter attributes ++ rest) ≡ map enter attributes ++ rest
 enters_busy profile [] rest more s = more s
 enters_busy profile (a ∷ attributes) rest more s = busy profile s (enter a) (λ s. refl) (map enter attributes ++ rest) (enters_busy profile attributes rest more)
 
 foreground_busy : (profile : ProfileView) (f b : Option ℕ) (s : TerminalState) → without_idle profile s (sets_foreground f ++ sets_background b) ≡ sets_foreground f ++ sets_background b
-foreground_busy profile f b s = grind (arith, nat_tests)
+foreground_busy profile f b s = grind arith
 
 renders_busy : (profile : ProfileView) (pen : PenView) (s : TerminalState) → without_idle profile s (renders pen) ≡ renders pen
-renders_busy profile pen s = grind (arith, nat_tests, append_assoc, enters_busy, foreground_busy)
+renders_busy profile pen s = grind (arith, append_assoc, enters_busy, foreground_busy)
 
 -- ---- what is left of some operations
 
@@ -69,11 +69,11 @@ pub record Becomes (profile : ProfileView) (old new : TerminalState) (more kept 
   pub less : without_idle profile old more ≡ kept
 
 both_become : RunLaws → (profile : ProfileView) (old mid new : TerminalState) (xs ys some more : List Op) → Becomes profile old mid xs some → Becomes profile mid new ys more → Becomes profile old new (xs ++ ys) (some ++ more)
-both_become laws profile old mid new xs ys some more first second = grind (arith, nat_tests, then_runs, idle_joined)
+both_become laws profile old mid new xs ys some more first second = grind (arith, then_runs, idle_joined)
 
 -- one operation that is idle or not
 one_becomes : (profile : ProfileView) (old new : TerminalState) (op : Op) → runs profile old (op ∷ []) ≡ Some new → (b : Bool) → is_idle old op ≡ b → Becomes profile old new (op ∷ []) (if b then [] else op ∷ [])
-one_becomes profile old new op run b idle = grind (arith, nat_tests)
+one_becomes profile old new op run b idle = grind arith
 
 busy_becomes : (profile : ProfileView) (old new : TerminalState) (ops : List Op) → runs profile old ops ≡ Some new → without_idle profile old ops ≡ ops → Becomes profile old new ops ops
 busy_becomes profile old new ops run less = record { run = run; kept_run = run; less = less }
@@ -83,7 +83,7 @@ busy_becomes profile old new ops run less = record { run = run; kept_run = run; 
 -- operations that were pushed after the others and then counted
 pub counted : (profile : ProfileView) (old mid new : Draft) (begun : ℕ) (more : List Op) (spot : Spot) (pen : PenView) → begun ≡ length old.ops.items → mid.ops.items ≡ old.ops.items ++ more → mid.bytes ≡ old.bytes
     → mid.keeps ≡ old.keeps → IsCounted profile mid new begun spot pen → IsAdded profile old new more spot pen
-counted profile old mid new begun more spot pen at added bytes keeps paid = grind (arith, nat_tests, drop-append_seam)
+counted profile old mid new begun more spot pen at added bytes keeps paid = grind (arith, drop-append_seam)
 
 -- what was added of operations is what is left of them
 led : RunLaws → (profile : ProfileView) → IsProfile profile → (stores : Bool) (first : List Op) (start : TerminalState) (all : List Op) (old new : Draft) (more kept : List Op) (spot : Spot) (pen : PenView) (next : TerminalState) → IsAdded profile old new kept spot pen
@@ -105,7 +105,7 @@ led laws profile p stores first start all old new more kept spot pen next added 
 -- ---- motions and turns
 
 resets_become : (profile : ProfileView) → HasLaws profile → (old : TerminalState) → IsShownPen (abilities profile) old.pen → Becomes profile old (plain old) (resets profile) (resets_unless_plain (painter_of profile) old.pen)
-resets_become profile can old shown = grind (arith, nat_tests)
+resets_become profile can old shown = grind arith
 
 move_becomes : (profile : ProfileView) → HasLaws profile → (old : TerminalState) (place : ℕ × ℕ) → IsPlace profile.rows profile.columns place → (profile.msgr || is_plain_pen old.pen) ≡ true
     → Becomes profile old (at_place old place) (Move place.0 place.1 ∷ []) (moves_unless_there old.spot place)
@@ -182,7 +182,7 @@ nothing_goes profile old stores first start all joining = subst (λ ops. IsJoini
 
 -- one part and then another
 pub goes_on : (profile : ProfileView) (old mid new : Draft) (xs ys : List Op) → Continues profile old mid xs → Continues profile mid new ys → Continues profile old new (xs ++ ys)
-goes_on profile old mid new xs ys one other stores first start all joining = grind (arith, nat_tests, append_assoc)
+goes_on profile old mid new xs ys one other stores first start all joining = grind (arith, append_assoc)
 
 -- what comes after is not counted yet
 pub counts_less : RunLaws → (profile : ProfileView) (old new : Draft) (xs ys more : List Op) → Continues profile old new xs → more ≡ xs ++ ys → CountsAtMost profile old new more
@@ -198,7 +198,7 @@ counts_less laws profile old new xs ys more goes is stores first start all joini
 
 -- no attribute on and default colours are shown by each terminal
 plain_shown : (profile : ProfileView) → IsShownPen (abilities profile) plain_pen
-plain_shown profile = grind (arith, nat_tests, and_le_r)
+plain_shown profile = grind (arith, and_le_r)
 
 -- a state of the emulated terminal is one of the profile when no attribute is on
 plain_state : (profile : ProfileView) (state : TerminalState) → IsState (full_abilities profile.rows profile.columns) state → IsState (abilities profile) (plain state)
@@ -207,7 +207,7 @@ plain_state profile state is = record { whole = is.whole; looks = is.looks; spot
 -- attributes are turned off where they can be, or where none is on
 first_resets : (profile : ProfileView) → HasLaws profile → (state : TerminalState) → (is_there profile Sgr0 ≡ true) ⊎ (is_plain_pen state.pen ≡ true)
     → Becomes profile state (plain state) (resets profile) (resets_unless_plain (painter_of profile) state.pen)
-first_resets profile can state may = grind (arith, nat_tests)
+first_resets profile can state may = grind arith
 
 pub begun_joining : RunLaws → ProfilesHave → (profile : ProfileView) → IsProfile profile → (painter : Painter) → painter ≡ painter_of profile → (memory : MemoryView) → IsMemory memory → memory.rows ≡ profile.rows → memory.columns ≡ profile.columns
     → (is_there profile Sgr0 ≡ true) ⊎ (is_plain_pen memory.state.pen ≡ true) → (first ops part : List Op) (joining : Draft) → ops ≡ first ++ resets_unless_plain painter memory.state.pen → part ≡ drop (length first) ops

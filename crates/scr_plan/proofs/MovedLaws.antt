@@ -1,5 +1,5 @@
 -- Rows that are settled one after another, once rows were shifted.
-use Rattle.std.proofs.Common.{◌≡◌, ℕ, ◌+◌, ◌<◌, ◌≤◌, ◌&&◌, ◌⊎◌, not, nat_le, Bool, true, false, refl, sym, ◌∙◌, ap, subst, arith, List, [], ◌∷◌, length, slice_index_or, Option, Some, None, if◌then◌else◌}
+use Rattle.std.proofs.Common.{◌≡◌, ℕ, ◌+◌, ◌<◌, ◌≤◌, ◌&&◌, ◌||◌, ◌⊎◌, not, nat_le, Bool, true, false, refl, sym, ◌∙◌, ap, subst, arith, List, [], ◌∷◌, ◌++◌, length, slice_index_or, Option, Some, None, if◌then◌else◌}
 use Rattle.std.proofs.lemmas.Bool.Decides.{nat_tests}
 use Rattle.scr_cells.specs.Grids.{GridLaws, grid_at, grid_of, grid_row, places_left, places_right}
 use Rattle.scr_cells.specs.LookViews.{LookView, blank}
@@ -14,11 +14,13 @@ use Rattle.scr_term.specs.Operations.Steps.{act, runs}
 use Rattle.scr_term.specs.Operations.Texts.{all_bytes, has}
 use Rattle.scr_plan.proofs.DraftLaws.{aimed_alike, aimed_at, begun_aimed, drawn}
 use Rattle.scr_plan.proofs.PlaceLaws.{one_run}
-use Rattle.scr_plan.proofs.PlainLaws.{look_same, not_false, not_in}
+use Rattle.scr_plan.proofs.PlainLaws.{look_same, not_false}
+use Rattle.scr_plan.proofs.RunChangeLaws.{not_in}
+use Rattle.scr_plan.proofs.RunLaws.{in_both}
 use Rattle.scr_plan.specs.Code.Drafts.{aim_of, Aim, HasDiffering, IsAdded, IsAimed, KeepsAbove, KeepsEvery, KeepsRuns, in_runs}
 use Rattle.scr_plan.specs.Code.Moves.{IsBegun, IsMoved, IsSent, IsSlide, Sends, shifted_at, shown_at}
 use Rattle.scr_plan.specs.Code.Painters.{painter_look, painter_of, row_differs}
-use Rattle.scr_plan.specs.Code.Settled.{Aims, HasShownIn, IsShownRow, Settles, SlidesRow, aim_settled, aim_slid, in_first, is_moved, look_from, look_settled, op_of, slid_at}
+use Rattle.scr_plan.specs.Code.Settled.{Aims, HasShown, HasShownIn, IsShownRow, KeepsStill, Settles, SlidesRow, aim_settled, aim_slid, in_first, is_moved, look_from, look_settled, op_of, slid_at}
 use Rattle.scr_memory.specs.Memories.{MemoryView, moves_rows}
 use Rattle.scr_plan.specs.Repaints.{look_eq}
 use Rattle.scr_plan.specs.Scratch.{Fits, look_at}
@@ -32,29 +34,29 @@ use Rattle.scr_plan.specs.declared.strokes.Draft.{Draft}
 
 -- what is settled of a place, by where its row is
 above_first : (profile : ProfileView) (picture : PictureView) (shift : Option Shift) (grid : List (List LookView)) (n r c : ℕ) → r < n → look_settled profile picture shift grid n (r, c) ≡ look_at profile picture (r, c)
-above_first profile picture shift grid n r c under = grind (arith, nat_tests)
+above_first profile picture shift grid n r c under = grind arith
 
 from_first : (profile : ProfileView) (picture : PictureView) (shift : Option Shift) (grid : List (List LookView)) (n r c : ℕ) → n ≤ r → look_settled profile picture shift grid n (r, c) ≡ shown_at shift (grid_at blank grid) r c
-from_first profile picture shift grid n r c over = grind (arith, nat_tests)
+from_first profile picture shift grid n r c over = grind arith
 
 first_none : (n r c : ℕ) (runs : List Run) → n ≤ r → in_first n runs (r, c) ≡ false
-first_none n r c runs over = grind (arith, nat_tests)
+first_none n r c runs over = grind arith
 
 first_same : (n r c : ℕ) (runs : List Run) → in_runs runs (r, c) ≡ false → in_first n runs (r, c) ≡ false
-first_same n r c runs e = grind (arith, nat_tests)
+first_same n r c runs e = grind arith
 
 -- where the draft shows this in each place, and the picture in the row except in its runs, the row is settled
 pub row_settled : (profile : ProfileView) (picture : PictureView) (shift : Option Shift) (grid : List (List LookView)) (row : ℕ) (look : ℕ × ℕ → LookView) (some more : List Run) (draft : Draft)
     → ((r c : ℕ) → c < picture.columns → (r < row) ⊎ (row + 1 ≤ r) → look (r, c) ≡ look_settled profile picture shift grid row (r, c)) → KeepsAbove row some more → ((c : ℕ) → c < picture.columns → in_runs more (row, c) ≡ false → look (row, c) ≡ look_at profile picture (row, c))
     → Aims profile (record { rows = picture.rows; columns = picture.columns; look = look }) (in_first row some) (aim_settled profile picture shift grid (row + 1)) (in_first (row + 1) more) draft draft
 row_settled profile picture shift grid row look some more draft others keeps own paid first start right =
-    aimed_at profile (aim_settled profile picture shift grid (row + 1)) paid first start (in_first (row + 1) more) draft right (λ r c high wide e. grind (arith, nat_tests, right.shows r c, keeps (r, c)))
+    aimed_at profile (aim_settled profile picture shift grid (row + 1)) paid first start (in_first (row + 1) more) draft right (λ r c high wide e. grind (arith, right.shows r c, keeps (r, c)))
 
 -- rows that show the picture except in their runs are settled
 pub rows_stay : (profile : ProfileView) (picture : PictureView) (shift : Option Shift) (grid : List (List LookView)) (n m : ℕ) (runs : List Run) (draft : Draft) → n ≤ m → ((r : ℕ) → n ≤ r → r < m → r < picture.rows → HasShownIn profile picture shift grid runs r)
     → Settles profile picture shift grid n m runs runs draft draft
 rows_stay profile picture shift grid n m runs draft order shown paid first start right =
-    aimed_at profile (aim_settled profile picture shift grid m) paid first start (in_first m runs) draft right (λ r c high wide e. grind (arith, nat_tests, right.shows r c, shown r))
+    aimed_at profile (aim_settled profile picture shift grid m) paid first start (in_first m runs) draft right (λ r c high wide e. grind (arith, right.shows r c, shown r))
 
 pub row_stays : (profile : ProfileView) (picture : PictureView) (shift : Option Shift) (grid : List (List LookView)) (row : ℕ) (runs : List Run) (draft : Draft) → HasShownIn profile picture shift grid runs row → Settles profile picture shift grid row (row + 1) runs runs draft draft
 row_stays profile picture shift grid row runs draft shown = rows_stay profile picture shift grid row (row + 1) runs draft (omega arith) (λ r low high up. let here : row ≡ r = omega arith in subst (HasShownIn profile picture shift grid runs) here shown)
@@ -62,7 +64,7 @@ row_stays profile picture shift grid row runs draft shown = rows_stay profile pi
 -- a row whose runs are over what it shows
 pub shown_found : (profile : ProfileView) (picture : PictureView) (painter : Painter) → painter ≡ painter_of profile → (shift : Option Shift) (grid : List (List LookView)) (row : ℕ) (before : Option (List LookView)) (runs : List Run)
     → HasDiffering painter picture row before 0 picture.columns runs → IsShownRow picture.columns shift grid row before → HasShownIn profile picture shift grid runs row
-shown_found profile picture painter who shift grid row before runs has shown c wide e = grind (arith, nat_tests)
+shown_found profile picture painter who shift grid row before runs has shown c wide e = grind arith
 
 -- more runs
 pub shown_kept : (profile : ProfileView) (picture : PictureView) (shift : Option Shift) (grid : List (List LookView)) (row : ℕ) (some more : List Run) → ((place : ℕ × ℕ) → place.0 ≡ row → in_runs some place ≡ true → in_runs more place ≡ true) → HasShownIn profile picture shift grid some row
@@ -72,20 +74,41 @@ shown_kept profile picture shift grid row some more keeps shown c wide e = shown
 -- one row more
 pub shown_more : (profile : ProfileView) (picture : PictureView) (shift : Option Shift) (grid : List (List LookView)) (top row : ℕ) (some more : List Run) → KeepsRuns some more → ((r : ℕ) → top ≤ r → r < row → HasShownIn profile picture shift grid some r)
     → HasShownIn profile picture shift grid more row → (r : ℕ) → top ≤ r → r < row + 1 → HasShownIn profile picture shift grid more r
-shown_more profile picture shift grid top row some more keeps before own r low high = grind (arith, nat_tests)
+shown_more profile picture shift grid top row some more keeps before own r low high = grind arith
 
 -- a row that a shift does not change
 pub not_moved : (shift : Option Shift) (at : ℕ → ℕ → LookView) (r c : ℕ) → is_moved shift r ≡ false → shown_at shift at r c ≡ at r c
-not_moved shift at r c e = grind (arith, nat_tests)
+not_moved shift at r c e = grind arith
+
+-- rows that a shift changes, and others, whose runs are kept
+pub shown_shifted : (profile : ProfileView) (picture : PictureView) (shift : Shift) (grid : List (List LookView)) (above found some more most all : List Run) → found ≡ above ++ some → HasShown profile picture None grid 0 found
+    → KeepsStill shift above more → KeepsRuns more most → ((r : ℕ) → shift.top ≤ r → r < shift.end → HasShownIn profile picture (Some shift) grid most r) → KeepsRuns most all → KeepsStill shift some all → HasShown profile picture (Some shift) grid 0 all
+shown_shifted profile picture shift grid above found some more most all is shown first keeps moved keeps_more rest r low high = by (is_moved (Some shift) r) refl
+  where
+    none : (c : ℕ) → in_runs all (r, c) ≡ false → (a b : Bool) → (a ≡ true → in_runs all (r, c) ≡ true) → (b ≡ true → in_runs all (r, c) ≡ true) → (a || b) ≡ false
+    none c e true b f g = (cc (f refl, e))
+    none c e false true f g = (cc (g refl, e))
+    none c e false false f g = refl
+
+    by : (b : Bool) → is_moved (Some shift) r ≡ b → HasShownIn profile picture (Some shift) grid all r
+    by true at c wide e =
+        let under : shift.top ≤ r = grind arith in
+        let inside : r < shift.end = grind arith in
+        shown_kept profile picture (Some shift) grid r most all (λ place _ e. keeps_more place e) (moved r under inside) c wide e
+    by false still c wide e =
+        not_moved (Some shift) (grid_at blank grid) r c still
+        ∙ shown r low high c wide
+        (ap (λ runs. in_runs runs (r, c)) is ∙ in_both above some (r, c)
+        ∙ none c e (in_runs above (r, c)) (in_runs some (r, c)) (λ h. keeps_more (r, c) (keeps (r, c) (first (r, c) still h))) (rest (r, c) still))
 
 -- ---- a slide
 
 -- what a place shows after a slide depends on its own row alone, and in another row on that place
 slid_same : (columns row : ℕ) (slide : Slide) (at by : ℕ → ℕ → LookView) (r c : ℕ) → c < columns → (row ≡ r → (d : ℕ) → d < columns → at r d ≡ by r d) → at r c ≡ by r c → slid_at columns row slide at r c ≡ slid_at columns row slide by r c
-slid_same columns row slide at by r c wide there own = grind (arith, nat_tests)
+slid_same columns row slide at by r c wide there own = grind arith
 
 slid_other : (columns row : ℕ) (slide : Slide) (at : ℕ → ℕ → LookView) (r c : ℕ) → (r < row) ⊎ (row + 1 ≤ r) → slid_at columns row slide at r c ≡ at r c
-slid_other columns row slide at r c where_is = grind (arith, nat_tests)
+slid_other columns row slide at r c where_is = grind arith
 
 -- its operation does that
 slides : (profile : ProfileView) (row : ℕ) (slide : Slide) → slide.column + slide.count ≤ profile.columns → (state : TerminalState) → state.spot ≡ At row slide.column → is_plain_pen state.pen ≡ true
@@ -93,7 +116,7 @@ slides : (profile : ProfileView) (row : ℕ) (slide : Slide) → slide.column + 
 slides profile row slide inside state here plain = by slide.inserts
   where
     narrow : nat_le (slide.column + slide.count) profile.columns ≡ true
-    narrow = grind (arith, nat_tests)
+    narrow = grind arith
 
     by : (inserts : Bool) → act profile state (if inserts then InsertChars slide.count else DeleteChars slide.count)
         ≡ Some (record state { grid = grid_of profile.rows profile.columns (λ r c. if inserts then places_right row slide.column profile.columns slide.count blank (grid_at blank state.grid) r c else places_left row slide.column profile.columns slide.count blank (grid_at blank state.grid) r c) })
@@ -156,7 +179,7 @@ settles_then profile picture shift grid n m k some more most old mid new one oth
 -- ---- from what is remembered
 
 begun_sent : (profile : ProfileView) (memory : MemoryView) (draft : Draft) → IsBegun memory draft → IsState (abilities profile) memory.state → IsSent profile memory.state memory.state.grid draft
-begun_sent profile memory draft begun is = grind (arith, nat_tests)
+begun_sent profile memory draft begun is = grind arith
 
 -- a shift was sent, if any, and the rows are settled
 pub settled_moves : GridLaws LookView → (profile : ProfileView) (memory : MemoryView) (picture : PictureView) → Fits profile picture → IsState (abilities profile) memory.state

@@ -47,11 +47,11 @@ is_among r c list = list_any (is_here r c) list
 
 pub among_row : (r c n a : ℕ) → a ≤ c → c < a + n → is_among r c (part_places a n r) ≡ true
 among_row r c zero a low high = absurd (omega arith)
-among_row r c (suc n) a low high = grind (arith, nat_tests, among_row r c n (a + 1))
+among_row r c (suc n) a low high = grind (arith, among_row r c n (a + 1))
 
 among_rows : (columns r c n a : ℕ) → c < columns → a ≤ r → r < a + n → is_among r c (flat_map (row_places columns) (range_with_len a n)) ≡ true
 among_rows columns r c zero a wide low high = absurd (omega arith)
-among_rows columns r c (suc n) a wide low high = rw (list_any-append (is_here r c) (row_places columns a) _) (grind (arith, nat_tests, among_row r c columns 0, among_rows columns r c n (a + 1)))
+among_rows columns r c (suc n) a wide low high = rw (list_any-append (is_here r c) (row_places columns a) _) (grind (arith, among_row r c columns 0, among_rows columns r c n (a + 1)))
 
 pub among_places : (rows columns r c : ℕ) → r < rows → c < columns → is_among r c (places rows columns) ≡ true
 among_places rows columns r c high wide = among_rows columns r c rows 0 wide (omega arith) (omega arith)
@@ -124,10 +124,10 @@ read_any (x ∷ xs) (suc i) d e inside = read_any xs i d e (omega arith)
 -- ---- what is the same does not differ
 
 pub pen_refl : (a : PenView) → pen_eq a a ≡ true
-pen_refl a = grind (arith, nat_tests)
+pen_refl a = grind arith
 
 pub look_refl : (a : LookView) → look_eq a a ≡ true
-look_refl a = grind (arith, nat_tests)
+look_refl a = grind arith
 
 each_known : (rows : List Bool) (r : ℕ) → list_all (λ known. known) rows ≡ true → r < length rows → get_or rows r false ≡ true
 each_known [] r e h = absurd (omega arith)
@@ -152,7 +152,7 @@ row_same ranges profile memory virtual same size known r high none =
     none_in_part (differs profile virtual.picture memory) 0 virtual.picture.columns r (λ c low wide. same_place ranges profile memory virtual same size known r c high (omega arith) (ap (λ range. in_range range c) none))
 
 pub outside_below : (from last c : ℕ) → c < from → in_range (Some (from, last)) c ≡ false
-outside_below from last c below = grind (arith, nat_tests)
+outside_below from last c below = grind arith
 
 pub outside_above : (from last c : ℕ) → last < c → in_range (Some (from, last)) c ≡ false
-outside_above from last c above = grind (arith, nat_tests)
+outside_above from last c above = grind arith

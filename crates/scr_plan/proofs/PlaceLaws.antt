@@ -42,7 +42,7 @@ first_step profile old new op ops run = goes_on (step profile old op) (λ s. run
 
 -- one operation that the profile has
 pub one_run : (profile : ProfileView) (old new : TerminalState) (op : Op) → has profile op ≡ true → act profile old op ≡ Some new → runs profile old (op ∷ []) ≡ Some new
-one_run profile old new op had acts = grind (arith, nat_tests)
+one_run profile old new op had acts = grind arith
 
 -- what erases with a plain pen: the rest of the line, and all lines from the cursor's on
 pub erases_line : (profile : ProfileView) (state : TerminalState) (r c : ℕ) → state.spot ≡ At r c → is_plain_pen state.pen ≡ true → act profile state EraseLine ≡ Some (erased profile.rows profile.columns (is_in_run r c profile.columns) state)
@@ -65,14 +65,14 @@ at_place state place = record { grid = state.grid; spot = At place.0 place.1; pe
 
 resets_by : (profile : ProfileView) → HasLaws profile → (old : TerminalState) → IsShownPen (abilities profile) old.pen → (b : Bool) → is_there profile Sgr0 ≡ b
     → runs profile old (if b then Reset ∷ [] else []) ≡ Some (plain old)
-resets_by profile can old shown b there = grind (arith, nat_tests)
+resets_by profile can old shown b there = grind arith
 
 pub resets_run : (profile : ProfileView) → HasLaws profile → (old : TerminalState) → IsShownPen (abilities profile) old.pen → runs profile old (resets profile) ≡ Some (plain old)
 resets_run profile can old shown = resets_by profile can old shown (is_there profile Sgr0) refl
 
 pub move_run : (profile : ProfileView) → HasLaws profile → (old : TerminalState) (place : ℕ × ℕ) → IsPlace profile.rows profile.columns place
     → (profile.msgr || is_plain_pen old.pen) ≡ true → runs profile old (Move place.0 place.1 ∷ []) ≡ Some (at_place old place)
-move_run profile can old place inside free = grind (arith, nat_tests)
+move_run profile can old place inside free = grind arith
 
 pub goes_by : RunLaws → (profile : ProfileView) → HasLaws profile → (old : TerminalState) → IsShownPen (abilities profile) old.pen → (place : ℕ × ℕ) → IsPlace profile.rows profile.columns place
     → (b : Bool) → profile.msgr ≡ b
@@ -107,12 +107,12 @@ Enters profile attributes =
 
 enters_more : RunLaws → (profile : ProfileView) → HasLaws profile → (set a : ℕ) (rest : List ℕ) → is_attribute a ≡ true → Enters profile rest
     → (b : Bool) → (bit_and (bit_and (shown_set profile) set) a == a) ≡ b → Enters profile (cond b (a ∷ rest) rest)
-enters_more laws profile can set a rest one h b e = grind (arith, nat_tests, then_runs, one_run, shown_member, eqb-true)
+enters_more laws profile can set a rest one h b e = grind (arith, then_runs, one_run, shown_member, eqb-true)
 
 enters : RunLaws → (profile : ProfileView) → HasLaws profile → (set : ℕ) (attributes : List ℕ) → AllByRecursion (λ a. is_attribute a ≡ true) attributes
     → Enters profile (seen_of (shown_set profile) set attributes)
 enters laws profile can set [] each = λ old. refl
-enters laws profile can set (a ∷ rest) each = grind (arith, nat_tests, enters laws profile can set rest each.1, enters_more)
+enters laws profile can set (a ∷ rest) each = grind (arith, enters laws profile can set rest each.1, enters_more)
 
 -- a colour that the terminal shows
 abbrev IsSeen : ProfileView → ℕ → Type 0
@@ -125,11 +125,11 @@ with_pen state place attrs foreground background =
 
 foreground_set : (profile : ProfileView) → HasLaws profile → (old : TerminalState) (place : ℕ × ℕ) (attrs : ℕ) (f : Option ℕ) → IfSome f (IsSeen profile)
     → runs profile (with_pen old place attrs None None) (sets_foreground f) ≡ Some (with_pen old place attrs f None)
-foreground_set profile can old place attrs f seen = grind (arith, nat_tests)
+foreground_set profile can old place attrs f seen = grind arith
 
 background_set : (profile : ProfileView) → HasLaws profile → (old : TerminalState) (place : ℕ × ℕ) (attrs : ℕ) (f b : Option ℕ) → IfSome b (IsSeen profile)
     → runs profile (with_pen old place attrs f None) (sets_background b) ≡ Some (with_pen old place attrs f b)
-background_set profile can old place attrs f b seen = grind (arith, nat_tests)
+background_set profile can old place attrs f b seen = grind arith
 
 -- ---- what is seen of a cell
 
@@ -149,7 +149,7 @@ cell_of (line ∷ lines) (suc r) c each = cell_of lines r c each.1
 
 colours_seen : (profile : ProfileView) (picture : PictureView) → IsPicture picture → (pair : ℕ) → pair < 64 → (b : Bool) → has_colours profile ≡ b
     → IfSome (if b then (pair_colours picture.pairs pair).0 else None) (IsSeen profile) × IfSome (if b then (pair_colours picture.pairs pair).1 else None) (IsSeen profile)
-colours_seen profile picture k pair small b shown = grind (arith, nat_tests)
+colours_seen profile picture k pair small b shown = grind arith
 
 -- ---- a place
 
@@ -181,4 +181,4 @@ begun_run laws have profile p picture k place old =
     (background_set profile can old place attrs look.pen.foreground look.pen.background seen.1)
 
 pub place_is_painted : RunLaws → ProfilesHave → PlaceIsPainted
-place_is_painted laws have profile p picture k place inside old s = grind (arith, nat_tests, cell_of, recursion_from_All, then_runs, goes_by, begun_run, one_run)
+place_is_painted laws have profile p picture k place inside old s = grind (arith, cell_of, recursion_from_All, then_runs, goes_by, begun_run, one_run)

@@ -23,22 +23,22 @@ use Rattle.scr_plan.specs.Scratch.{Fits, PlaceIsPainted, RunsToShow, look_at, pa
 -- ---- looks that are found equal are the same
 
 pub both : (a b : Bool) → (a && b) ≡ true → (a ≡ true) × (b ≡ true)
-both a b e = grind (arith, nat_tests)
+both a b e = grind arith
 
 pub pen_same : (a b : PenView) → pen_eq a b ≡ true → a ≡ b
-pen_same a b e = grind (arith, nat_tests)
+pen_same a b e = grind arith
 
 pub look_same : (a b : LookView) → look_eq a b ≡ true → a ≡ b
-look_same a b e = grind (arith, nat_tests)
+look_same a b e = grind arith
 
 -- ---- what does not differ is shown
 
 pub not_false : (b : Bool) → not b ≡ false → b ≡ true
-not_false b e = grind (arith, nat_tests)
+not_false b e = grind arith
 
 pub same_is_shown : (profile : ProfileView) (picture : PictureView) (memory : MemoryView) (old : TerminalState) → Agrees (abilities profile) memory old
     → (r c : ℕ) → r < profile.rows → differs profile picture memory (r, c) ≡ false → grid_at blank old.grid r c ≡ look_at profile picture (r, c)
-same_is_shown profile picture memory old agrees r c high e = grind (arith, nat_tests)
+same_is_shown profile picture memory old agrees r c high e = grind arith
 
 -- ---- the places that differ
 
@@ -58,7 +58,7 @@ among_differing profile picture memory r c high wide =
 
 pub filter_inside : {A : Type 0} (P : A → Type 0) (p : A → Bool) (xs : List A) → AllByRecursion P xs → AllByRecursion P (filter p xs)
 filter_inside P p [] all = tt
-filter_inside P p (x ∷ xs) all = grind (arith, nat_tests, filter_inside P p xs all.1)
+filter_inside P p (x ∷ xs) all = grind (arith, filter_inside P p xs all.1)
 
 -- ---- from every state that agrees
 
@@ -82,11 +82,11 @@ repaint_shows laws have place_law grids profile p picture k fits memory old agre
 -- ---- where nothing differs
 
 pub none_left : (list : List (ℕ × ℕ)) → is_none_left list ≡ true → list ≡ []
-none_left list e = grind (arith, nat_tests)
+none_left list e = grind arith
 
 pub placed_is : (memory : MemoryView) (wish : Option (ℕ × ℕ)) (spot : Spot) → (memory.known_spot ≡ true → spot ≡ memory.state.spot) → is_placed memory wish ≡ true
     → IfSome wish (λ place. spot ≡ At place.0 place.1)
-placed_is memory wish spot known e = grind (arith, nat_tests)
+placed_is memory wish spot known e = grind arith
 
 pub nothing_shows : GridLaws LookView → (profile : ProfileView) (picture : PictureView) → IsPicture picture → Fits profile picture
     → (memory : MemoryView) (old : TerminalState) → Agrees (abilities profile) memory old → is_none_left (differing profile picture memory) ≡ true → is_placed memory picture.wish ≡ true
@@ -116,8 +116,4 @@ plain_by laws have place_law grids profile p picture k fits memory old agrees fa
 
 pub plain_shows : RunLaws → ProfilesHave → PlaceIsPainted → GridLaws LookView → (profile : ProfileView) → IsProfile profile → (picture : PictureView) → IsPicture picture → Fits profile picture
     → (memory : MemoryView) (old : TerminalState) → Agrees (abilities profile) memory old → RunsToShow profile old (plain_of profile memory picture) picture
-plain_shows laws have place_law grids profile p picture k fits memory old agrees = grind (arith, nat_tests, plain_by)
-
--- what implies something false is false
-pub not_in : (a b : Bool) → (a ≡ true → b ≡ true) → b ≡ false → a ≡ false
-not_in a b h e = grind (arith, nat_tests)
+plain_shows laws have place_law grids profile p picture k fits memory old agrees = grind (arith, plain_by)

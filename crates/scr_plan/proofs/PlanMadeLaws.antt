@@ -84,4 +84,4 @@ plan_is_cheap cheap = record {
 
 pub sure_plans : PlansAreMade → (profile : ProfileView) → IsProfile profile → (virtual : VirtualView) → IsPicture virtual.picture → Fits profile virtual.picture → (memory : MemoryView) → IsGrid profile.rows profile.columns memory.state.grid → (due : Bool) → (is_known memory && not virtual.repaint) ≡ due
     → (r : Result (List Op) NoMemory) → IfOk r (λ ops. ops ≡ (if due then joined_of profile memory virtual.picture else anew_of profile virtual.picture)) → IfOk r (IsPlan profile memory virtual)
-sure_plans made profile p virtual k fits memory whole due is r same = grind (arith, nat_tests)
+sure_plans made profile p virtual k fits memory whole due is r same = grind arith

@@ -30,7 +30,7 @@ use Rattle.scr_plan.proofs.PartLaws.{read_any}
 
 -- the remembered state agrees with what is remembered
 pub agrees_itself : (abilities : Abilities) (memory : MemoryView) → MayBe abilities memory → Agrees abilities memory memory.state
-agrees_itself abilities memory may = grind (arith, nat_tests)
+agrees_itself abilities memory may = grind arith
 
 -- a list that is all true
 known_all : (n : ℕ) → list_all (λ k. k) (replicate n true) ≡ true
@@ -114,12 +114,12 @@ no_row (suc n) (suc r) = no_row n r
 was_known : (first n r : ℕ) (rows : List Bool) → get_or (map (λ k. if leb first k && ltb k (first + n) then false else get_or rows k false) (range_with_len 0 (length rows))) r false ≡ true → get_or rows r false ≡ true
 was_known first n r rows known =
     let few = length-map-range_with_len (λ k. if leb first k && ltb k (first + n) then false else get_or rows k false) 0 (length rows) in
-    grind (arith, nat_tests, few, get_or-map-range_with_len, get_or-eq_default)
+    grind (arith, few, get_or-map-range_with_len, get_or-eq_default)
 
 -- ---- ranges
 
 was_outside : (old new : VirtualView) → HoldsChanges old new → (r c : ℕ) → in_range (altered_at new r) c ≡ false → in_range (altered_at old r) c ≡ false
-was_outside old new changes r c out = grind (arith, nat_tests)
+was_outside old new changes r c out = grind arith
 
 -- ---- after an update
 

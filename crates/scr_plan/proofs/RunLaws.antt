@@ -21,7 +21,7 @@ in_both (x ∷ xs) ys place = grind (arith, in_both xs ys place)
 -- what is in no run but one that was emptied was in that one alone
 set_left : (runs : List Run) (number : ℕ) (place : ℕ × ℕ) → in_runs (set runs number no_run) place ≡ false → (in_runs runs place && not (is_in (get_or runs number no_run) place)) ≡ false
 set_left [] number place e = refl
-set_left (run ∷ runs) zero place e = grind (arith, nat_tests)
+set_left (run ∷ runs) zero place e = grind arith
 set_left (run ∷ runs) (suc number) place e = grind (arith, set_left runs number place)
 
 pub visited : (profile : ProfileView) (picture : PictureView) (runs left : List Run) (number : ℕ) (run : Run) (old new : Draft) → get_or runs number no_run ≡ run → left ≡ set runs number no_run → Covers profile picture (is_in run) old new → Leaves profile picture runs left old new
@@ -54,7 +54,7 @@ taken_out [] begun after row order inside own place out e = (cc)
 taken_out (run ∷ runs) zero zero row order inside own place out e = e
 taken_out (run ∷ runs) zero (suc after) row order inside own place out e =
     let its : run.row ≡ row = own 0 no_run (omega arith) (omega arith) in
-    let off : is_in run place ≡ false = grind (arith, nat_tests) in
+    let off : is_in run place ≡ false = grind arith in
     taken_out runs zero after row (omega arith) (omega arith) (λ k other low high. own (suc k) other (omega arith) (omega arith)) place out (sym (ap (λ b. b || in_runs runs place) off) ∙ e)
 taken_out (run ∷ runs) (suc begun) zero row order inside own place out e = absurd (omega (arith, order))
 taken_out (run ∷ runs) (suc begun) (suc after) row order inside own place out e =
@@ -79,4 +79,4 @@ same_row old mid new one other = record { scene = other.scene ∙ one.scene; lin
 pub cut_more : (start old new : Cut) (run : Run) (some more : List Run) → IsSameRow start old → CutsOff old new run → more ≡ some ++ run ∷ []
     → ((c : ℕ) → start.column ≤ c → c < old.column → differs_at start c ≡ true → in_runs some (start.line.row, c) ≡ true)
     → (c : ℕ) → start.column ≤ c → c < new.column → differs_at start c ≡ true → in_runs more (start.line.row, c) ≡ true
-cut_more start old new run some more same cuts is has c low high differs = grind (arith, nat_tests, in_more, one_more)
+cut_more start old new run some more same cuts is has c low high differs = grind (arith, in_more, one_more)

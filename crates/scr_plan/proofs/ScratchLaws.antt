@@ -60,13 +60,13 @@ pub place_changed : GridLaws LookView → (rows columns : ℕ) (grid : List (Lis
     → (r c : ℕ) → r < rows → c < columns
     → grid_at blank (grid_with grid place.0 place.1 look) r c ≡ (if is_here r c place then look else grid_at blank grid r c)
 place_changed grids rows columns grid is place inside look r c high wide =
-    let same : is_in_run place.0 place.1 (place.1 + 1) r c ≡ is_here r c place = grind (arith, nat_tests) in
+    let same : is_in_run place.0 place.1 (place.1 + 1) r c ≡ is_here r c place = grind arith in
     ap (λ g. grid_at blank g r c) (grids.place blank rows columns grid place.0 place.1 look is inside.0 inside.1)
     ∙ grids.formula blank rows columns (λ r c. if is_in_run place.0 place.1 (place.1 + 1) r c then look else grid_at blank grid r c) r c high wide
     ∙ ap (λ here. if here then look else grid_at blank grid r c) same
 
 pub own_look : (profile : ProfileView) (picture : PictureView) (place : ℕ × ℕ) (r c : ℕ) → is_here r c place ≡ true → look_at profile picture place ≡ look_at profile picture (r, c)
-own_look profile picture place r c here = grind (arith, nat_tests)
+own_look profile picture place r c here = grind arith
 
 neither : (waits first others : Bool) → (waits && not (first || others)) ≡ false → ((waits && not first) && not others) ≡ false
 neither waits first others e = grind arith
@@ -95,7 +95,7 @@ map_same f g zero a same = refl
 map_same f g (suc n) a same = λ i. same a (omega arith) i ∷ map_same f g n (a + 1) (λ k below. same k (omega (arith, below))) i
 
 pub grid_same : (rows columns : ℕ) (f g : ℕ → ℕ → LookView) → ((r c : ℕ) → r < rows → c < columns → f r c ≡ g r c) → grid_of rows columns f ≡ grid_of rows columns g
-grid_same rows columns f g same = grind (arith, nat_tests, map_same)
+grid_same rows columns f g same = grind (arith, map_same)
 
 pub map_grid_at : (f : CellView → LookView) (lines : List (List CellView)) (r c : ℕ) → grid_at (f blank_cell) (map (map f) lines) r c ≡ f (grid_at blank_cell lines r c)
 map_grid_at f lines r c = ap (λ line. get_or line c (f blank_cell)) (get_or-map (map f) lines r []) ∙ get_or-map f (grid_row lines r) c blank_cell
@@ -145,7 +145,7 @@ painted_shows laws grids profile p can picture k fits old state ops painted =
 -- no attribute and default colours, and then a blank screen
 pub cleared_run : RunLaws → (profile : ProfileView) → HasLaws profile → (old : TerminalState) → IsShownPen (abilities profile) old.pen
     → runs profile old (resets profile ++ Clear ∷ []) ≡ Some (blank_state profile.rows profile.columns)
-cleared_run laws profile can old shown = grind (arith, nat_tests)
+cleared_run laws profile can old shown = grind arith
 
 pub all_inside : (profile : ProfileView) (picture : PictureView) → Fits profile picture → AllByRecursion (IsPlace profile.rows profile.columns) (places picture.rows picture.columns)
 all_inside profile picture fits = rw (fits.rows, fits.columns) (places_inside profile.rows profile.columns)
@@ -163,31 +163,31 @@ scratch_shows laws have place_law grids profile p picture k fits old s =
 
 -- the bytes of scratch, by the law of the operations and that of their bytes
 pub scratch_bytes_show : ScratchShows → Ecma48Laws → BytesActAsTheirOperations → ScratchBytesShow
-scratch_bytes_show law bundled bytes_law profile e picture k fits old s = grind (arith, nat_tests)
+scratch_bytes_show law bundled bytes_law profile e picture k fits old s = grind arith
 
 one_or_none : {A : Type 0} → (b : Bool) (x : A) → length (if b then x ∷ [] else []) ≤ 1
-one_or_none b x = grind (arith, nat_tests)
+one_or_none b x = grind arith
 
 resets_few : (profile : ProfileView) → length (resets profile) ≤ 1
 resets_few profile = one_or_none (is_there profile Sgr0) Reset
 
 foreground_few : (colour : Option ℕ) → length (sets_foreground colour) ≤ 1
-foreground_few colour = grind (arith, nat_tests)
+foreground_few colour = grind arith
 
 background_few : (colour : Option ℕ) → length (sets_background colour) ≤ 1
-background_few colour = grind (arith, nat_tests)
+background_few colour = grind arith
 
 cursor_few : (wish : Option (ℕ × ℕ)) → length (places_cursor wish) ≤ 1
-cursor_few wish = grind (arith, nat_tests)
+cursor_few wish = grind arith
 
 entered_few : (set : ℕ) → length (map enter (attributes_of set)) ≤ 7
-entered_few set = grind (arith, nat_tests)
+entered_few set = grind arith
 
 renders_few : (pen : PenView) → length (renders pen) ≤ 9
-renders_few pen = grind (arith, nat_tests, entered_few, foreground_few, background_few, length-append)
+renders_few pen = grind (arith, entered_few, foreground_few, background_few, length-append)
 
 goes_few : (profile : ProfileView) (place : ℕ × ℕ) → length (goes profile place) ≤ 2
-goes_few profile place = grind (arith, nat_tests)
+goes_few profile place = grind arith
 
 place_few : (profile : ProfileView) (picture : PictureView) (place : ℕ × ℕ) → length (paints_place profile picture place) ≤ 12
 place_few profile picture place =
@@ -198,7 +198,7 @@ place_few profile picture place =
 -- so many for each
 each_few : {A B : Type 0} → (f : A → List B) (k : ℕ) (xs : List A) → ((x : A) → length (f x) ≤ k) → length (flat_map f xs) ≤ length xs * k
 each_few f k [] h = omega arith
-each_few f k (x ∷ xs) h = grind (arith, nat_tests, each_few f k xs h, length-append)
+each_few f k (x ∷ xs) h = grind (arith, each_few f k xs h, length-append)
 
 row_length : (columns r : ℕ) → length (row_places columns r) ≡ columns
 row_length columns r = length-map (range_with_len 0 columns) (λ c. (r, c)) ∙ length-range_with_len 0 columns

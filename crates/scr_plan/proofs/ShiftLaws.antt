@@ -71,7 +71,7 @@ op_sent laws profile p old new op move acts had added start grid sent =
     counted_on a b n whole e f = omega (arith, e, f)
 
 inside_test : (row count rows : ℕ) → row + count ≤ rows → (0 == 0 && nat_le (row + count) rows) ≡ true
-inside_test row count rows fits = grind (arith, nat_tests)
+inside_test row count rows fits = grind arith
 
 pub deleted : RunLaws → GridLaws LookView → (profile : ProfileView) → IsProfile profile → (row count : ℕ) → row + count ≤ profile.rows → has profile (DeleteLines count) ≡ true → (old mid new : Draft) → KeepsEvery profile old mid → mid.spot ≡ At row 0 → is_plain_pen mid.pen ≡ true
     → IsAdded profile mid new (DeleteLines count ∷ []) mid.spot mid.pen → Sends profile (rows_up row profile.rows count blank) old new
@@ -96,7 +96,7 @@ inserted laws grids profile p row count fits had old mid new keeps here plain ad
 -- a move that is the same in every place is the same
 pub sent_alike : (profile : ProfileView) (f g : (ℕ → ℕ → LookView) → ℕ → ℕ → LookView) (old new : Draft)
     → ((at : ℕ → ℕ → LookView) (r c : ℕ) → r < profile.rows → c < profile.columns → f at r c ≡ g at r c) → Sends profile f old new → Sends profile g old new
-sent_alike profile f g old new same sends start grid sent = grind (arith, nat_tests, grid_same)
+sent_alike profile f g old new same sends start grid sent = grind (arith, grid_same)
 
 pub sent_then : GridLaws LookView → (profile : ProfileView) (f g : (ℕ → ℕ → LookView) → ℕ → ℕ → LookView) (old mid new : Draft) → Sends profile f old mid → Sends profile g mid new
     → (start : TerminalState) (grid : List (List LookView)) → IsSent profile start grid old

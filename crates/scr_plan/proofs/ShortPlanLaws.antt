@@ -42,7 +42,7 @@ use Rattle.scr_plan.specs.declared.strokes.Draft.{Draft}
 
 -- a state that is remembered is one of the profile, where its pen can be shown
 pub state_of : (profile : ProfileView) (memory : MemoryView) → IsMemory memory → memory.rows ≡ profile.rows → memory.columns ≡ profile.columns → IsShownPen (abilities profile) memory.state.pen → IsState (abilities profile) memory.state
-state_of profile memory is rows columns shown = grind (arith, nat_tests)
+state_of profile memory is rows columns shown = grind arith
 
 -- what is remembered has the screen's size
 pub whole_of : (profile : ProfileView) (picture : PictureView) (memory : MemoryView) → IsMemory memory → IsSizeOf picture memory → Fits profile picture → IsGrid profile.rows profile.columns memory.state.grid
@@ -106,7 +106,7 @@ few_bytes own whole bytes drafted counted less exact all = omega arith
 
 -- if all is known, something is
 pub not_nothing : {R : Type 0} (memory : MemoryView) (repaint : Bool) → (is_known memory && not repaint) ≡ true → (repaint || is_nothing_known memory) ≡ true → R
-not_nothing memory repaint due e = grind (arith, nat_tests)
+not_nothing memory repaint due e = grind arith
 
 -- where all is known
 pub short_plan : RunLaws → KnownMemories → MemoryRuns → GridLaws LookView → (profile : ProfileView) → IsProfile profile → (virtual : VirtualView) → IsPicture virtual.picture → Fits profile virtual.picture

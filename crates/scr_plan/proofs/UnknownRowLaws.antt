@@ -35,7 +35,7 @@ use Rattle.scr_prices.specs.declared.runs.Run.{Run}
 use Rattle.scr_plan.specs.declared.strokes.Draft.{Draft}
 
 never : {R : Type 0} (b : Bool) → b ≡ true → b ≡ false → R
-never b e f = grind (arith, nat_tests)
+never b e f = grind arith
 
 -- ---- rows that an erasure makes known
 
@@ -50,7 +50,7 @@ there (row ∷ rows) (suc r) e = omega (arith, there rows r e)
 
 -- rows that were known are, and so are those from one on
 from_stays : (first : ℕ) (rows : List Bool) (r : ℕ) → get_or rows r false ≡ true → get_or (known_from first rows) r false ≡ true
-from_stays first rows r e = grind (arith, nat_tests, from_at, there)
+from_stays first rows r e = grind (arith, from_at, there)
 
 from_known : (first : ℕ) (rows : List Bool) (r : ℕ) → leb first r ≡ true → r < length rows → get_or (known_from first rows) r false ≡ true
 from_known first rows r low h = from_at first rows r h ∙ ap (λ b. cond b true (get_or rows r false)) low
@@ -81,17 +81,17 @@ still profile memory (op ∷ ops) now calm spot pen run = by (step profile memor
   where
     by : (next : Option TerminalState) → step profile memory.state op ≡ next → ((m : MemoryView) → m.known_spot ≡ true → m.known_pen ≡ true → runs profile m.state ops ≡ Some now → Still profile m ops)
         → option_and_then (λ s. runs profile s ops) next ≡ Some now → Still profile memory (op ∷ ops)
-    by next at on e = grind (arith, nat_tests, both, stays_followed)
+    by next at on e = grind (arith, both, stays_followed)
 
 -- ---- what a draft's operations make known
 
 pub knows_weaker : (profile : ProfileView) (memory : MemoryView) (known less : ℕ → Bool) (draft : Draft) → ((r : ℕ) → less r ≡ true → known r ≡ true) → Knows profile memory known draft → Knows profile memory less draft
-knows_weaker profile memory known less draft fewer knows = grind (arith, nat_tests)
+knows_weaker profile memory known less draft fewer knows = grind arith
 
 -- operations more that are defined from what is remembered
 knows_more : MemoryRuns → (profile : ProfileView) → IsProfile profile → (memory : MemoryView) (known : ℕ → Bool) (old new : Draft) (own : List Op) (now : TerminalState) → Knows profile memory known old → new.keeps ≡ old.keeps → new.ops.items ≡ old.ops.items ++ own → is_calm own ≡ true
     → runs profile (all_followed profile old.ops.items memory).state own ≡ Some now → now.spot ≡ new.spot → now.pen ≡ new.pen → new.bytes ≡ counted_up new.bytes → Knows profile memory known new
-knows_more laws profile p memory known old new own now knows keeps ops calm run spot pen bytes = grind (arith, nat_tests, still)
+knows_more laws profile p memory known old new own now knows keeps ops calm run spot pen bytes = grind (arith, still)
 
 -- strokes keep what is known
 pub knows_kept : MemoryRuns → (profile : ProfileView) → IsProfile profile → (picture : PictureView) (memory : MemoryView) (known : ℕ → Bool) (old new : Draft) → KeepsAll profile picture old new → Knows profile memory known old → Knows profile memory known new
@@ -136,7 +136,7 @@ knows_erased run_laws laws profile p memory known row high old new had here plai
   where
     by : (r : ℕ) (b : Bool) → known r ≡ b → (known r || r == row) ≡ true → (known r ≡ true → get_or (all_followed profile old.ops.items memory).known_rows r false ≡ true) → row < length (all_followed profile old.ops.items memory).known_rows
         → get_or (set (all_followed profile old.ops.items memory).known_rows row true) r false ≡ true
-    by r b at e was inside = grind (arith, nat_tests, stays_set, get_or-set_same)
+    by r b at e was inside = grind (arith, stays_set, get_or-set_same)
 
 -- an erasure of that row and of all below it
 pub knows_erased_below : RunLaws → MemoryRuns → (profile : ProfileView) → IsProfile profile → (memory : MemoryView) (known : ℕ → Bool) (top : ℕ) (old new : Draft) → has profile EraseBelow ≡ true → old.spot ≡ At top 0 → is_plain_pen old.pen ≡ true
@@ -149,12 +149,12 @@ knows_erased_below run_laws laws profile p memory known top old new had here pla
   where
     by : (r : ℕ) (b : Bool) → known r ≡ b → or_from known top profile.rows r ≡ true → (known r ≡ true → get_or (all_followed profile old.ops.items memory).known_rows r false ≡ true)
         → get_or (known_from top (all_followed profile old.ops.items memory).known_rows) r false ≡ true
-    by r b at e was = grind (arith, nat_tests, from_stays, both, from_known)
+    by r b at e was = grind (arith, from_stays, both, from_known)
 
 -- ---- where the draft begins
 
 or_true : (b : Bool) → (b || true) ≡ true
-or_true b = grind (arith, nat_tests)
+or_true b = grind arith
 
 -- what a draft begins with: no attribute, default colours, and the cursor at the beginning of a row
 abbrev pub begins_plain : ProfileView → ℕ → List Op
@@ -179,7 +179,7 @@ begun_run laws have profile p row high wide start state = grind (arith, nat_test
 pub begun_is : RunLaws → ProfilesHave → (profile : ProfileView) → IsProfile profile → (painter : Painter) → painter ≡ painter_of profile → (row : ℕ) → row < profile.rows → 0 < profile.columns → (ops : List Op) → ops ≡ [] ++ painter_resets painter → (price : ℕ)
     → (All (λ op. has profile op ≡ true) ops → price ≡ counted_up (length (all_bytes profile ops))) → (start : TerminalState) → IsState (abilities profile) start → (old new : Draft) → old.keeps ≡ true → old.ops.items ≡ ops → old.bytes ≡ price
     → (pen : PenView) → pen ≡ plain_pen → IsAdded profile old new (Move row 0 ∷ []) (At row 0) pen → IsBegun profile row new
-begun_is laws have profile p painter who row high wide ops made price priced start state old new keeps items bytes pen is added = grind (arith, nat_tests)
+begun_is laws have profile p painter who row high wide ops made price priced start state old new keeps items bytes pen is added = grind arith
 
 pub begun_right : RunLaws → ProfilesHave → (profile : ProfileView) → IsProfile profile → (picture : PictureView) → Fits profile picture → (memory : MemoryView) → (row : ℕ) → row < profile.rows → 0 < profile.columns
     → (new : Draft) → IsBegun profile row new → RightFrom profile picture memory (unsettled profile picture memory 0) new
@@ -203,7 +203,7 @@ begun_right laws have profile p picture fits memory row high wide new begun star
     by r c up e = same_is_shown profile picture memory start agrees r c up (known_same (is_known_row memory r) (look_eq (look_in memory (r, c)) (look_at profile picture (r, c))) r _ e)
       where
         known_same : (known same : Bool) (r : ℕ) (other : Bool) → (if known then not same else (if ltb r 0 then other else true)) ≡ false → not (known && same) ≡ false
-        known_same known same r other e = grind (arith, nat_tests)
+        known_same known same r other e = grind arith
 
 -- what is known of the terminal then
 pub knows_begun : RunLaws → ProfilesHave → MemoryRuns → (profile : ProfileView) → IsProfile profile → (memory : MemoryView) → MayBe (abilities profile) memory → (row : ℕ) → row < profile.rows → 0 < profile.columns
@@ -256,21 +256,21 @@ knows_begun laws have memories profile p memory may row high wide new begun =
 pub unknown_wiped : (profile : ProfileView) (picture : PictureView) (memory : MemoryView) (row : ℕ) (old new : Draft) → is_known_row memory row ≡ false → WipesRow profile picture row old new
     → Keeps profile picture (unsettled profile picture memory row) (unsettled profile picture memory (row + 1)) old new
 unknown_wiped profile picture memory row old new unknown wipes paid first start right =
-    weaker profile picture (row_wiped profile picture row (unsettled profile picture memory row)) (unsettled profile picture memory (row + 1)) new (λ place e. grind (arith, nat_tests)) paid first start
+    weaker profile picture (row_wiped profile picture row (unsettled profile picture memory row)) (unsettled profile picture memory (row + 1)) new (λ place e. grind arith) paid first start
     (wipes (unsettled profile picture memory row) paid first start right)
 
 -- the last rows, of which none was known, and which were erased at once
 pub rest_wiped : (profile : ProfileView) (picture : PictureView) (memory : MemoryView) (top : ℕ) (old mid new : Draft) → memory.rows ≡ picture.rows → AreUnknown memory top → KeepsAll profile picture old mid → Wipes profile picture top mid new
     → Keeps profile picture (unsettled profile picture memory top) (unsettled profile picture memory picture.rows) old new
 rest_wiped profile picture memory top old mid new high unknown reached wipes paid first start right =
-    weaker_inside profile picture (wiped profile picture top (unsettled profile picture memory top)) (unsettled profile picture memory picture.rows) new (λ r c under wide e. grind (arith, nat_tests, unknown r)) paid first start
+    weaker_inside profile picture (wiped profile picture top (unsettled profile picture memory top)) (unsettled profile picture memory picture.rows) new (λ r c under wide e. grind (arith, unknown r)) paid first start
     (wipes (unsettled profile picture memory top) paid first start (reached (unsettled profile picture memory top) paid first start right))
 
 pub rest_more : (known : ℕ → Bool) (top rows n r : ℕ) → rows ≡ n → or_below known n r ≡ true → or_from (or_below known top) top rows r ≡ true
-rest_more known top rows n r same e = grind (arith, nat_tests)
+rest_more known top rows n r same e = grind arith
 
 pub below_row : (known : ℕ → Bool) (row r : ℕ) → or_below known (row + 1) r ≡ true → or_row (or_below known row) row r ≡ true
-below_row known row r e = grind (arith, nat_tests)
+below_row known row r e = grind arith
 
 -- ---- what is found
 
@@ -317,9 +317,9 @@ partly_done run_laws have laws profile p picture fits memory runs found old mid 
     settled = weaker_inside profile picture (unsettled profile picture memory picture.rows) (in_runs runs) mid (λ r c high wide e. found r high c wide e)
 
     low : (r : ℕ) → r < picture.rows → (is_known_row memory r || ltb r picture.rows) ≡ true
-    low r below = grind (arith, nat_tests)
+    low r below = grind arith
 
 -- ---- answers
 
 pub if_ok_then : {E : Type 0} (r : Result Bool E) (P Q : Type 0) → (P → Q) → IfOk r (λ done. done ≡ true → P) → IfOk r (λ done. done ≡ true → Q)
-if_ok_then r P Q f h = grind (arith, nat_tests)
+if_ok_then r P Q f h = grind arith

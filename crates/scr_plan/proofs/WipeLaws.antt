@@ -75,7 +75,7 @@ clear_wipes laws have grids profile p picture fits old new plain added =
     added
   where
     from_first : (r : ℕ) → leb 0 r ≡ true
-    from_first r = grind (arith, nat_tests)
+    from_first r = grind arith
 
 pub below_wipes : RunLaws → GridLaws LookView → (profile : ProfileView) → IsProfile profile → (picture : PictureView) → Fits profile picture → (top : ℕ) (old new : Draft) → has profile EraseBelow ≡ true → old.spot ≡ At top 0 → is_plain_pen old.pen ≡ true
     → IsAdded profile old new (EraseBelow ∷ []) old.spot old.pen → Wipes profile picture top old new
@@ -83,7 +83,7 @@ below_wipes laws grids profile p picture fits top old new had here plain added =
     erased_by laws grids profile p picture fits (leb top) (is_from_place top 0) (from_top top) old new EraseBelow refl had (λ state at with. erases_below profile state top (at ∙ here) (ap is_plain_pen with ∙ plain)) added
   where
     from_top : (top r c : ℕ) → c < profile.columns → is_from_place top 0 r c ≡ leb top r
-    from_top top r c wide = grind (arith, nat_tests)
+    from_top top r c wide = grind arith
 
 -- the row where the cursor is in its first column
 pub row_wipes : RunLaws → GridLaws LookView → (profile : ProfileView) → IsProfile profile → (picture : PictureView) → Fits profile picture → (row : ℕ) → (old new : Draft) → has profile EraseLine ≡ true → old.spot ≡ At row 0 → is_plain_pen old.pen ≡ true
@@ -92,19 +92,19 @@ row_wipes laws grids profile p picture fits row old new had here plain added =
     erased_by laws grids profile p picture fits (λ r. r == row) (is_in_run row 0 profile.columns) (in_row row) old new EraseLine refl had (λ state at with. erases_line profile state row 0 (at ∙ here) (ap is_plain_pen with ∙ plain)) added
   where
     in_row : (row r c : ℕ) → c < profile.columns → is_in_run row 0 profile.columns r c ≡ (r == row)
-    in_row row r c wide = grind (arith, nat_tests)
+    in_row row r c wide = grind arith
 
 -- ---- the runs there
 
 -- one row more
 pub rows_marked : (painter : Painter) (picture : PictureView) (some more : List Run) (first row : ℕ) → KeepsRuns some more → HasMarks painter picture some first row → HasDiffering painter picture row None 0 picture.columns more → HasMarks painter picture more first (row + 1)
-rows_marked painter picture some more first row keeps above own r c low high wide differs = grind (arith, nat_tests)
+rows_marked painter picture some more first row keeps above own r c low high wide differs = grind arith
 
 -- where a place is in no run of the screen that was wiped, it is right on that screen
 pub wipe_leaves : (profile : ProfileView) (picture : PictureView) (painter : Painter) → painter ≡ painter_of profile → (top : ℕ) (all some more : List Run) (old mid new : Draft) → KeepsAbove top all some → KeepsRuns some more → HasMarks painter picture more top picture.rows
     → KeepsAll profile picture old mid → Wipes profile picture top mid new → Leaves profile picture all more old new
 wipe_leaves profile picture painter who top all some more old mid new above keeps marks reached wipes paid first start right =
-    weaker_inside profile picture (wiped profile picture top (in_runs all)) (in_runs more) new (λ r c high wide e. grind (arith, nat_tests, marks r c, above (r, c), keeps (r, c))) paid first start
+    weaker_inside profile picture (wiped profile picture top (in_runs all)) (in_runs more) new (λ r c high wide e. grind (arith, marks r c, above (r, c), keeps (r, c))) paid first start
     (wipes (in_runs all) paid first start (reached (in_runs all) paid first start right))
 
 -- ---- the runs above
@@ -114,11 +114,11 @@ one_dropped top runs kept d some inside low above place under e =
     let run : Run = get_or runs (kept - 1) d in
     let back : kept - 1 + 1 ≡ kept = omega (arith, some) in
     let cut : take kept runs ≡ take (kept - 1) runs ++ run ∷ [] = ap (λ n. take n runs) (sym back) ∙ take_more runs (kept - 1) d (omega (arith, some, inside)) in
-    let out : is_in run place ≡ false = grind (arith, nat_tests) in
+    let out : is_in run place ≡ false = grind arith in
     let was = rw (cut, in_both (take (kept - 1) runs) (run ∷ []) place, out) at (above place under e) in
     grind (arith, was)
 
 -- ---- answers
 
 pub on_ok_both : {T E : Type 0} (r : Result T E) (P Q R : Type 0) → (P → Q → R) → OnOk r P → OnOk r Q → OnOk r R
-on_ok_both r P Q R f p q = grind (arith, nat_tests)
+on_ok_both r P Q R f p q = grind arith
