@@ -1,7 +1,6 @@
 -- Painting the places of a row, each after its neighbour where both have one pen, leads where painting them one by one leads.
 use Rattle.std.proofs.Common.{◌≡◌, ℕ, ◌+◌, ◌<◌, ◌≤◌, Bool, true, false, All, refl, sym, ◌∙◌, ap, arith, nat_lt, List, [], ◌∷◌, ◌++◌, filter, Some, zero, suc, if◌then◌else◌}
 use Rattle.std.specs.List.{flat_map}
-use Rattle.std.proofs.lemmas.Bool.Decides.{nat_tests}
 use Rattle.std.proofs.lemmas.List.{append-nil}
 use Rattle.std.proofs.lemmas.List.Elements.{recursion_from_All}
 use Rattle.scr_cells.specs.CellViews.{IsCell, blank_cell}

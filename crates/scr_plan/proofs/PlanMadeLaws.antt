@@ -1,5 +1,4 @@
 -- The sure repaint is all that an update wants.
-use Rattle.std.proofs.lemmas.Bool.Decides.{nat_tests}
 use Rattle.std.proofs.Common.{◌≡◌, ◌≤◌, append_assoc, ◌&&◌, not, Bool, true, false, refl, subst, arith, List, [], ◌∷◌, ◌++◌, length, Result, IfOk, if◌then◌else◌}
 use Rattle.scr_cells.specs.Grids.{IsGrid}
 use Rattle.scr_cells.specs.PictureViews.{IsPicture}

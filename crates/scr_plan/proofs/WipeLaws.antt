@@ -1,7 +1,6 @@
 -- Many lines erased at once.
 use Rattle.scr_term.specs.declared.operations.operation.Spot.{Spot}
 use Rattle.std.proofs.Common.{◌≡◌, ℕ, ◌+◌, ◌-◌, ◌<◌, ◌≤◌, ◌==◌, ◌&&◌, not, leb, Bool, true, false, refl, sym, ◌∙◌, ap, arith, List, [], ◌∷◌, ◌++◌, get_or, length, take, Some, None, Result, OnOk, if◌then◌else◌}
-use Rattle.std.proofs.lemmas.Bool.Decides.{nat_tests}
 use Rattle.std.proofs.lemmas.List.{take_more}
 use Rattle.scr_cells.specs.Grids.{GridLaws, grid_at, is_in_run}
 use Rattle.scr_cells.specs.LookViews.{LookView, blank, blank_grid}
