@@ -1,5 +1,5 @@
 -- The joined repaint, row by row.
-use Rattle.std.proofs.Common.{◌≡◌, ℕ, ◌+◌, ◌-◌, ◌<◌, ◌≤◌, ◌⊎◌, inl, inr, not, Bool, true, false, refl, sym, ◌∙◌, ap, subst, arith, append_assoc, get_or, nat_lt, Result, OnOk, List, [], ◌∷◌, ◌++◌, filter, Option, Some, None, zero, suc, if◌then◌else◌, IfOk}
+use Rattle.std.proofs.Common.{◌≡◌, ℕ, ◌+◌, ◌-◌, ◌<◌, ◌≤◌, ◌⊎◌, inl, inr, not, Bool, true, false, refl, sym, ◌∙◌, ap, subst, arith, append_assoc, get_or, nat_lt, Result, OnOk, List, [], ◌∷◌, ◌++◌, filter, Option, Some, None, zero, suc, if◌then◌else◌}
 use Rattle.std.specs.List.{flat_map}
 use Rattle.std.proofs.lemmas.Bool.Decides.{nat_tests}
 use Rattle.std.proofs.lemmas.List.{append-nil}
@@ -20,10 +20,9 @@ use Rattle.scr_term.specs.Operations.States.{spot_after}
 use Rattle.scr_plan.proofs.JoinLaws.{differs_same, joins_same, known_row, painted, painted_adds, parts_painted, passed, row_is_brief}
 use Rattle.scr_plan.proofs.JoinedLaws.{IsErasable, erasable, joined_assoc, row_erased, row_unerased}
 use Rattle.scr_plan.proofs.JoiningLaws.{counts_less, goes_on, nothing_goes, put_goes}
-use Rattle.scr_plan.proofs.PartLaws.{is_among, none_in_places, none_in_part, pen_refl, outside_above, outside_below, part_joined, row_in_part, row_known, row_more, row_same, rows_same, same_place}
+use Rattle.scr_plan.proofs.PartLaws.{is_among, none_in_places, none_in_part, pen_refl, part_joined, row_in_part, row_known, row_more, same_place}
 use Rattle.scr_plan.proofs.PlaceLaws.{cell_of}
 use Rattle.scr_plan.proofs.PlainLaws.{among_differing}
-use Rattle.scr_plan.specs.Code.Planning.{IsSameRow}
 use Rattle.scr_plan.specs.Code.Joinings.{Continues, CountsAtMost, ShowsRow, counted_up, joined_at}
 use Rattle.scr_plan.specs.Code.Painters.{is_that_pen, painter_begins, painter_look, painter_of, painter_writes, part_places, pen_before, row_differs, row_paints}
 use Rattle.scr_memory.specs.Memories.{MemoryView, is_known}
@@ -123,18 +122,8 @@ row_with_rest profile picture row before painter who from e left order wide outs
 
 -- ---- rows of what is remembered
 
--- outside the columns that are looked at nothing differs
-pub outside_looks : (ranges : VirtualView → ℕ → Option (ℕ × ℕ)) (profile : ProfileView) (memory : MemoryView) (virtual : VirtualView) → ShowsOutside ranges profile memory virtual → IsSizeOf virtual.picture memory → is_known memory ≡ true
-    → (painter : Painter) → painter ≡ painter_of profile → (r from last : ℕ) (looks : List LookView) → r < virtual.picture.rows → ranges virtual r ≡ Some (from, last) → looks ≡ grid_row memory.state.grid r
-    → (c : ℕ) → (c < from) ⊎ (last + 1 ≤ c) → c < virtual.picture.columns → row_differs painter virtual.picture (Some looks) (r, c) ≡ false
-outside_looks ranges profile memory virtual same size known painter who r from last looks high range are c out wide = grind (arith, row_known, differs_same, known_row, same_place, outside_below, outside_above)
-
 pub shows_row : (profile : ProfileView) (memory : MemoryView) (virtual : VirtualView) → IsSizeOf virtual.picture memory → is_known memory ≡ true → (r : ℕ) (looks : List LookView) → r < virtual.picture.rows → looks ≡ grid_row memory.state.grid r → ShowsRow memory r (Some looks)
 shows_row profile memory virtual size known r looks high are = known_row memory r looks (row_known memory known r (omega (arith, high, size.known_rows))) are
-
--- a row in which nothing differs
-pub same_goes : (profile : ProfileView) (picture : PictureView) (memory : MemoryView) (r : ℕ) → IsSameRow profile picture memory r → (old : Draft) → Continues profile old old (flat_map (joined_at profile picture memory) (filter (differs profile picture memory) (row_places picture.columns r)))
-same_goes profile picture memory r same old = grind (arith, none_in_part, nothing_goes)
 
 -- ---- all rows
 
@@ -144,21 +133,6 @@ pub rows_go : (profile : ProfileView) (picture : PictureView) (memory : MemoryVi
     → Continues profile mid new (flat_map (joined_at profile picture memory) (filter (differs profile picture memory) (row_places columns row)))
     → Continues profile old new (flat_map (joined_at profile picture memory) (filter (differs profile picture memory) (places (row + 1) columns)))
 rows_go profile picture memory row columns old mid new first second = search (arith, row_more, goes_on)
-
--- rows before the first that is looked at, and from the end of these on
-pub begin_rows : (ranges : VirtualView → ℕ → Option (ℕ × ℕ)) (profile : ProfileView) (memory : MemoryView) (virtual : VirtualView) → ShowsOutside ranges profile memory virtual → IsSizeOf virtual.picture memory → is_known memory ≡ true
-    → (first : ℕ) → first ≤ virtual.picture.rows → ((r : ℕ) → r < first → r < virtual.picture.rows → ranges virtual r ≡ None) → filter (differs profile virtual.picture memory) (places first virtual.picture.columns) ≡ []
-begin_rows ranges profile memory virtual same size known first high none =
-    none_in_places (differs profile virtual.picture memory) first virtual.picture.columns (λ r below. row_same ranges profile memory virtual same size known r (omega arith) (none r below (omega arith)))
-
-pub end_rows : (ranges : VirtualView → ℕ → Option (ℕ × ℕ)) (profile : ProfileView) (memory : MemoryView) (virtual : VirtualView) → ShowsOutside ranges profile memory virtual → IsSizeOf virtual.picture memory → is_known memory ≡ true
-    → (end : ℕ) → end ≤ virtual.picture.rows → ((r : ℕ) → end ≤ r → r < virtual.picture.rows → ranges virtual r ≡ None)
-    → filter (differs profile virtual.picture memory) (places virtual.picture.rows virtual.picture.columns) ≡ filter (differs profile virtual.picture memory) (places end virtual.picture.columns)
-end_rows ranges profile memory virtual same size known end high none =
-    let whole : virtual.picture.rows ≡ end + (virtual.picture.rows - end) = omega (arith, high) in
-    ap (λ n. filter (differs profile virtual.picture memory) (places n virtual.picture.columns)) whole
-    ∙ rows_same (differs profile virtual.picture memory) end (virtual.picture.rows - end) virtual.picture.columns
-    (λ r low below. row_same ranges profile memory virtual same size known r (omega (arith, below, high)) (none r low (omega (arith, below, high))))
 
 pub nothing_of : (profile : ProfileView) (picture : PictureView) (memory : MemoryView) (n columns : ℕ) (old : Draft) → filter (differs profile picture memory) (places n columns) ≡ []
     → Continues profile old old (flat_map (joined_at profile picture memory) (filter (differs profile picture memory) (places n columns)))
@@ -200,9 +174,6 @@ left_or_not profile picture memory some none one = grind (arith, nat_tests, some
 
 pub on_ok : {T E : Type 0} (r : Result T E) (P Q : Type 0) → (P → Q) → OnOk r P → OnOk r Q
 on_ok r P Q f h = grind arith
-
-pub if_ok : {T E : Type 0} (r : Result T E) (P Q : T → Type 0) → ((a : T) → P a → Q a) → IfOk r P → IfOk r Q
-if_ok r P Q f h = grind arith
 
 -- ---- places that differ with one pen, counted
 

@@ -1,5 +1,5 @@
 -- Rows that are settled one after another, once rows were shifted.
-use Rattle.std.proofs.Common.{◌≡◌, ℕ, ◌+◌, ◌<◌, ◌≤◌, ◌&&◌, ◌||◌, ◌⊎◌, not, nat_le, Bool, true, false, refl, sym, ◌∙◌, ap, subst, arith, List, [], ◌∷◌, ◌++◌, length, slice_index_or, Option, Some, None, if◌then◌else◌}
+use Rattle.std.proofs.Common.{◌≡◌, ℕ, ◌+◌, ◌<◌, ◌≤◌, ◌&&◌, ◌⊎◌, not, nat_le, Bool, true, false, refl, sym, ◌∙◌, ap, subst, arith, List, [], ◌∷◌, length, slice_index_or, Option, Some, None, if◌then◌else◌}
 use Rattle.scr_cells.specs.Grids.{GridLaws, grid_at, grid_of, grid_row, places_left, places_right}
 use Rattle.scr_cells.specs.LookViews.{LookView, blank}
 use Rattle.scr_cells.specs.PenViews.{is_plain_pen}
@@ -13,13 +13,11 @@ use Rattle.scr_term.specs.Operations.Steps.{act, runs}
 use Rattle.scr_term.specs.Operations.Texts.{all_bytes, has}
 use Rattle.scr_plan.proofs.DraftLaws.{aimed_alike, aimed_at, begun_aimed, drawn}
 use Rattle.scr_plan.proofs.PlaceLaws.{one_run}
-use Rattle.scr_plan.proofs.PlainLaws.{look_same, not_false}
-use Rattle.scr_plan.proofs.RunChangeLaws.{not_in}
-use Rattle.scr_plan.proofs.RunLaws.{in_both}
+use Rattle.scr_plan.proofs.PlainLaws.{look_same, not_false, not_in}
 use Rattle.scr_plan.specs.Code.Drafts.{aim_of, Aim, HasDiffering, IsAdded, IsAimed, KeepsAbove, KeepsEvery, KeepsRuns, in_runs}
 use Rattle.scr_plan.specs.Code.Moves.{IsBegun, IsMoved, IsSent, IsSlide, Sends, shifted_at, shown_at}
 use Rattle.scr_plan.specs.Code.Painters.{painter_look, painter_of, row_differs}
-use Rattle.scr_plan.specs.Code.Settled.{Aims, HasShown, HasShownIn, IsShownRow, KeepsStill, Settles, SlidesRow, aim_settled, aim_slid, in_first, is_moved, look_from, look_settled, op_of, slid_at}
+use Rattle.scr_plan.specs.Code.Settled.{Aims, HasShownIn, IsShownRow, Settles, SlidesRow, aim_settled, aim_slid, in_first, is_moved, look_from, look_settled, op_of, slid_at}
 use Rattle.scr_memory.specs.Memories.{MemoryView, moves_rows}
 use Rattle.scr_plan.specs.Repaints.{look_eq}
 use Rattle.scr_plan.specs.Scratch.{Fits, look_at}
@@ -78,27 +76,6 @@ shown_more profile picture shift grid top row some more keeps before own r low h
 -- a row that a shift does not change
 pub not_moved : (shift : Option Shift) (at : ℕ → ℕ → LookView) (r c : ℕ) → is_moved shift r ≡ false → shown_at shift at r c ≡ at r c
 not_moved shift at r c e = grind arith
-
--- rows that a shift changes, and others, whose runs are kept
-pub shown_shifted : (profile : ProfileView) (picture : PictureView) (shift : Shift) (grid : List (List LookView)) (above found some more most all : List Run) → found ≡ above ++ some → HasShown profile picture None grid 0 found
-    → KeepsStill shift above more → KeepsRuns more most → ((r : ℕ) → shift.top ≤ r → r < shift.end → HasShownIn profile picture (Some shift) grid most r) → KeepsRuns most all → KeepsStill shift some all → HasShown profile picture (Some shift) grid 0 all
-shown_shifted profile picture shift grid above found some more most all is shown first keeps moved keeps_more rest r low high = by (is_moved (Some shift) r) refl
-  where
-    none : (c : ℕ) → in_runs all (r, c) ≡ false → (a b : Bool) → (a ≡ true → in_runs all (r, c) ≡ true) → (b ≡ true → in_runs all (r, c) ≡ true) → (a || b) ≡ false
-    none c e true b f g = (cc (f refl, e))
-    none c e false true f g = (cc (g refl, e))
-    none c e false false f g = refl
-
-    by : (b : Bool) → is_moved (Some shift) r ≡ b → HasShownIn profile picture (Some shift) grid all r
-    by true at c wide e =
-        let under : shift.top ≤ r = grind arith in
-        let inside : r < shift.end = grind arith in
-        shown_kept profile picture (Some shift) grid r most all (λ place _ e. keeps_more place e) (moved r under inside) c wide e
-    by false still c wide e =
-        not_moved (Some shift) (grid_at blank grid) r c still
-        ∙ shown r low high c wide
-        (ap (λ runs. in_runs runs (r, c)) is ∙ in_both above some (r, c)
-        ∙ none c e (in_runs above (r, c)) (in_runs some (r, c)) (λ h. keeps_more (r, c) (keeps (r, c) (first (r, c) still h))) (rest (r, c) still))
 
 -- ---- a slide
 

@@ -117,3 +117,8 @@ plain_by laws have place_law grids profile p picture k fits memory old agrees fa
 pub plain_shows : RunLaws → ProfilesHave → PlaceIsPainted → GridLaws LookView → (profile : ProfileView) → IsProfile profile → (picture : PictureView) → IsPicture picture → Fits profile picture
     → (memory : MemoryView) (old : TerminalState) → Agrees (abilities profile) memory old → RunsToShow profile old (plain_of profile memory picture) picture
 plain_shows laws have place_law grids profile p picture k fits memory old agrees = grind (arith, plain_by)
+
+-- what implies something false is false
+pub not_in : (a b : Bool) → (a ≡ true → b ≡ true) → b ≡ false → a ≡ false
+not_in true b h e = sym (h (λ i. true)) ∙ e
+not_in false b h e = (λ i. false)
