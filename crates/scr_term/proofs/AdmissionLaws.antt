@@ -25,7 +25,7 @@ use Rattle.scr_term.specs.declared.operations.operation.Op.{Op}
 use Rattle.scr_term.specs.Operations.Pieces.{Piece, Character, Text}
 use Rattle.scr_term.specs.declared.operations.profile_faults.ProfileFault.{ProfileFault}
 use Rattle.scr_term.specs.declared.operations.profile_faults.ProfileFault.TheVariants.{BadString, LongString, NoMemory}
-use Rattle.scr_term.specs.Operations.Admission.{IsRefused, admitted, bad_text, first_some, first_where, has_palette, is_bad_string, is_long_string, is_over_bound, is_spoiled, is_unreadable, named_text, planned_program, program_without_line_feed, refusal, refusals, screen_size, sent_text, size_fault, spare_program, within_limits}
+use Rattle.scr_term.specs.Operations.Admission.{IsRefused, admitted, bad_text, first_some, first_where, has_palette, is_bad_string, is_long_string, is_over_bound, is_spoiled, is_unreadable, named_text, planned_program, refusal, refusals, screen_size, sent_text, size_fault, spare_program, used_program, within_limits}
 use Rattle.scr_term.specs.Operations.Capabilities.{each_capability, each_spare, ordinal, slot_of}
 use Rattle.scr_term.specs.Operations.Profiles.{IsPlanned, IsProfile, ProfileView, has_colours, is_shown, program_of, set_of, shown_set}
 use Rattle.scr_term.specs.Operations.Texts.{bytes_in, bytes_of, first_piece, nine, piece_bytes, resets_colours, text, written}
@@ -167,14 +167,18 @@ none_or : (t : Bool) (q : Option Tree) → IfSome q IsPlanned → IfSome (cond t
 none_or true q planned = tt
 none_or false q planned = planned
 
-without_line_feed : (t : Option (List ℕ)) → IfSome (option_and_then program_without_line_feed t) IsPlanned
-without_line_feed None = tt
-without_line_feed (Some text) = none_or (list_any (λ byte. byte == 10) text) (within_limits (parsed text)) (limits_planned (parsed text))
+used_planned : (c : Capability) (text : List ℕ) → IfSome (used_program c text) IsPlanned
+used_planned capability.Ind text = limits_planned (parsed text)
+used_planned c text = none_or (list_any (λ byte. byte == 10) text) (within_limits (parsed text)) (limits_planned (parsed text))
+
+text_used : (c : Capability) (t : Option (List ℕ)) → IfSome (option_and_then (used_program c) t) IsPlanned
+text_used c None = tt
+text_used c (Some text) = used_planned c text
 
 spares_planned : (entry : Description) (cs : List Capability) → ArePlanned (map (spare_program entry) cs)
 spares_planned entry [] = all_none PlannedOption
 spares_planned entry (c ∷ cs) =
-    all_cons PlannedOption (spare_program entry c) (map (spare_program entry) cs) (none_or (is_spoiled entry c) _ (without_line_feed (sent_text entry c))) (spares_planned entry cs)
+    all_cons PlannedOption (spare_program entry c) (map (spare_program entry) cs) (none_or (is_spoiled entry c) _ (text_used c (sent_text entry c))) (spares_planned entry cs)
 
 pub texts_planned : (entry : Description) → AreTexts entry → ArePlanned (map (planned_program entry) each_capability ++ map (spare_program entry) each_spare)
 texts_planned entry t =

@@ -12,9 +12,9 @@ use Rattle.ti_param.specs.Stripped.{stripped}
 use Rattle.ti_param.specs.Tree.{Tree, bound, depth}
 use Rattle.scr_term.proofs.ChoiceLaws.{both_true}
 use Rattle.scr_term.specs.declared.operations.capability.Capability.{Capability}
-use Rattle.scr_term.specs.declared.operations.capability.Capability.TheVariants.{Cr, Clear, El, Ed, Hpa, Cup, Cud1, Home, Cub1, Cuf1, Cuu1, Blink, Bold, Dim, Invis, Rev, Smso, Smul, Ech, Sgr0, Cud, Cub, Cuf, Cuu, Vpa, Sgr, Op, Setaf, Setab, Il1, Il, Dl1, Dl, Ich, Dch1, Dch}
+use Rattle.scr_term.specs.declared.operations.capability.Capability.TheVariants.{Cr, Clear, El, Ed, Hpa, Cup, Cud1, Home, Cub1, Cuf1, Cuu1, Blink, Bold, Dim, Invis, Rev, Smso, Smul, Ech, Sgr0, Cud, Cub, Cuf, Cuu, Vpa, Sgr, Op, Setaf, Setab, Il1, Il, Dl1, Dl, Ich, Dch1, Dch, Ind, Ri, Indn, Rin, Rep}
 use Rattle.scr_term.specs.Operations.Abilities.{full_abilities}
-use Rattle.scr_term.specs.Operations.Admission.{IsEcma48, admitted, has_palette, is_at_least, is_spoiled, is_zero_or_absent, planned_program, program_without_line_feed, some_text, spare_program}
+use Rattle.scr_term.specs.Operations.Admission.{IsEcma48, admitted, has_palette, is_at_least, is_spoiled, is_zero_or_absent, planned_program, some_text, spare_program, used_program}
 use Rattle.scr_term.specs.Operations.Capabilities.{each_capability, each_spare, slot_of}
 use Rattle.scr_term.specs.Operations.Ecma48.{Ecma48Laws, bundled_program, ecma48_profile}
 use Rattle.scr_term.specs.Operations.Profiles.{ProfileView, IsPlanned, IsProfile, abilities, has_colours, is_there, program_of, shown_set}
@@ -33,15 +33,15 @@ none_of_two false q e = e
 spare_is_none : (entry : Description) → IsBundled entry → (capability : Capability) → listed bundled_texts (slot_of capability).0 ≡ None → spare_program entry capability ≡ bundled_program capability
 spare_is_none entry b capability absent =
     let none : text_at entry (slot_of capability).0 ≡ None = b.texts (slot_of capability).0 ∙ absent in
-    none_of_two (is_spoiled entry capability) (option_and_then program_without_line_feed (option_and_then (λ text. some_text (stripped text)) (text_at entry (slot_of capability).0)))
-    (ap (λ t. option_and_then program_without_line_feed (option_and_then (λ text. some_text (stripped text)) t)) none)
+    none_of_two (is_spoiled entry capability) (option_and_then (used_program capability) (option_and_then (λ text. some_text (stripped text)) (text_at entry (slot_of capability).0)))
+    (ap (λ t. option_and_then (used_program capability) (option_and_then (λ text. some_text (stripped text)) t)) none)
     ∙ sym (ap (λ t. option_and_then parsed (option_and_then (λ text. some_text (stripped text)) t)) absent)
 
 spares_are : (entry : Description) → IsBundled entry → map (spare_program entry) each_spare ≡ map bundled_program each_spare
 unfolding bundled_texts
 spares_are entry b =
     let one : (capability : Capability) → listed bundled_texts (slot_of capability).0 ≡ None → spare_program entry capability ≡ bundled_program capability = spare_is_none entry b in
-    λ i. one Il1 refl i ∷ one Il refl i ∷ one Dl1 refl i ∷ one Dl refl i ∷ one Ich refl i ∷ one Dch1 refl i ∷ one Dch refl i ∷ []
+    λ i. one Il1 refl i ∷ one Il refl i ∷ one Dl1 refl i ∷ one Dl refl i ∷ one Ich refl i ∷ one Dch1 refl i ∷ one Dch refl i ∷ one Ind refl i ∷ one Ri refl i ∷ one Indn refl i ∷ one Rin refl i ∷ one Rep refl i ∷ []
 
 has_a_palette : (entry : Description) → IsBundled entry → has_palette entry ≡ true
 has_a_palette entry b = λ i. is_at_least 8 (b.numbers COLORS.0 i) && is_at_least 64 (b.numbers PAIRS.0 i) && is_zero_or_absent (b.numbers NCV.0 i)
@@ -105,6 +105,11 @@ is_spare Dl = true
 is_spare Ich = true
 is_spare Dch1 = true
 is_spare Dch = true
+is_spare Ind = true
+is_spare Ri = true
+is_spare Indn = true
+is_spare Rin = true
+is_spare Rep = true
 is_spare _ = false
 
 there : (rows columns : ℕ) (capability : Capability) → is_there (ecma48_profile rows columns) capability ≡ not (is_spare capability)
@@ -145,6 +150,11 @@ there rows columns Dl = refl
 there rows columns Ich = refl
 there rows columns Dch1 = refl
 there rows columns Dch = refl
+there rows columns Ind = refl
+there rows columns Ri = refl
+there rows columns Indn = refl
+there rows columns Rin = refl
+there rows columns Rep = refl
 
 program_at : (rows columns : ℕ) (capability : Capability) → program_of (ecma48_profile rows columns) capability ≡ bundled_program capability
 unfolding ecma48_profile
@@ -184,6 +194,11 @@ program_at rows columns Dl = refl
 program_at rows columns Ich = refl
 program_at rows columns Dch1 = refl
 program_at rows columns Dch = refl
+program_at rows columns Ind = refl
+program_at rows columns Ri = refl
+program_at rows columns Indn = refl
+program_at rows columns Rin = refl
+program_at rows columns Rep = refl
 
 pub program_is : (profile : ProfileView) → IsEcma48 profile → (capability : Capability) → program_of profile capability ≡ bundled_program capability
 program_is profile is capability = ap (λ p. program_of p capability) (made profile is) ∙ program_at profile.rows profile.columns capability

@@ -1,12 +1,12 @@
 -- Grids of looks: blank ones, and what a character that is put in a place keeps.
-use Rattle.std.proofs.Common.{Bool, true, false, cond, get_or, ◌+◌, ◌-◌, ◌≤◌, ◌≡◌, ◌≢◌, ◌⊎◌, inl, inr, ℕ, ◌<◌, All, List, [], ap, arith, length, map, set, subst, sym, ◌∙◌}
+use Rattle.std.proofs.Common.{Bool, true, false, cond, get_or, ◌+◌, ◌-◌, ◌≤◌, ◌≡◌, ◌≢◌, ◌⊎◌, inl, inr, ℕ, zero, suc, ◌<◌, All, List, [], ◌++◌, ap, arith, drop, length, length-append, map, replicate, set, subst, sym, take, ◌∙◌}
 use Rattle.std.specs.List.{range_with_len}
 use Rattle.std.proofs.Math.ListN.{get_or-eq_default, get_or-map}
 use Rattle.std.proofs.lemmas.Simd.{map-map}
-use Rattle.std.proofs.lemmas.List.{get_or-set_other, get_or-set_same, length-set, map-set}
+use Rattle.std.proofs.lemmas.List.{get_or-set_other, get_or-set_same, length-drop, length-replicate, length-set, length-take, map-set}
 use Rattle.std.proofs.lemmas.List.FromFn.{get_or-map-range_with_len, length-map-range_with_len}
-use Rattle.std.proofs.lemmas.List.Elements.{All-get_or, All-map, All-set}
-use Rattle.scr_cells.specs.Grids.{IsGrid, grid_at, grid_filled, grid_of, grid_row, grid_with, places_left, places_right, rows_down, rows_up}
+use Rattle.std.proofs.lemmas.List.Elements.{All-append, All-cons, All-drop, All-get_or, All-map, All-nil, All-set, All-take}
+use Rattle.scr_cells.specs.Grids.{IsGrid, grid_at, grid_filled, grid_of, grid_row, grid_with, grid_with_run, line_with_run, places_left, places_right, rows_down, rows_up}
 use Rattle.scr_cells.specs.LookViews.{IsLook, LookView, blank, blank_grid, negative, negative_grid}
 
 same_or_not : (a b : ℕ) → (a ≡ b) ⊎ (a ≢ b)
@@ -28,6 +28,38 @@ put_is_grid {A} rows columns lines r c x is = record {
 pub put_all : (rows columns : ℕ) (lines : List (List LookView)) (r c : ℕ) (look : LookView) → IsGrid rows columns lines → r < rows → IsLook look → All (All IsLook) lines → All (All IsLook) (grid_with lines r c look)
 put_all rows columns lines r c look is row_in one each =
     All-set (All IsLook) lines r (set (grid_row lines r) c look) (All-set IsLook (grid_row lines r) c look one (All-get_or (All IsLook) lines r [] (omega (arith, is.high)) each)) each
+
+-- the same look in n places of a row one after another
+run_length : {A : Type 0} (line : List A) (c n : ℕ) (x : A) → c + n ≤ length line → length (line_with_run line c (replicate n x)) ≡ length line
+run_length line c n x fits =
+    let run = length-replicate n x in
+    omega (arith, fits, run, length-append (take c line ++ replicate n x) (drop (c + length (replicate n x)) line), length-append (take c line) (replicate n x), length-take c line, length-drop (c + length (replicate n x)) line)
+
+pub run_is_grid : {A : Type 0} (rows columns : ℕ) (lines : List (List A)) (r c n : ℕ) (x : A) → IsGrid rows columns lines → r < rows → c + n ≤ columns → IsGrid rows columns (grid_with_run lines r c (replicate n x))
+run_is_grid {A} rows columns lines r c n x is row_in fits = record {
+  high = length-set lines r line ∙ is.high;
+  wide = λ k h. elim (same_or_not k r) [
+    | inl e ↦ ap (λ i. length (grid_row (set lines r line) i)) e ∙ ap length (get_or-set_same lines r line [] (omega (arith, is.high, row_in)))
+        ∙ run_length (grid_row lines r) c n x (omega (arith, fits, is.wide r row_in)) ∙ is.wide r row_in
+    | inr o ↦ ap length (get_or-set_other lines r k line [] o) ∙ is.wide k h
+  ];
+}
+  where
+    line : List A
+    line = line_with_run (grid_row lines r) c (replicate n x)
+
+all_same : {A : Type 0} (P : A → Type 0) (n : ℕ) (x : A) → P x → All P (replicate n x)
+all_same P zero x is = All-nil P
+all_same P (suc n) x is = All-cons P x (replicate n x) is (all_same P n x is)
+
+pub run_all : (rows columns : ℕ) (lines : List (List LookView)) (r c n : ℕ) (look : LookView) → IsGrid rows columns lines → r < rows → IsLook look → All (All IsLook) lines
+    → All (All IsLook) (grid_with_run lines r c (replicate n look))
+run_all rows columns lines r c n look is row_in one each =
+    let line = grid_row lines r in
+    let run = replicate n look in
+    let old : All IsLook line = All-get_or (All IsLook) lines r [] (omega (arith, is.high, row_in)) each in
+    All-set (All IsLook) lines r (line_with_run line c run)
+    (All-append IsLook (take c line ++ run) (drop (c + length run) line) (All-append IsLook (take c line) run (All-take IsLook c line old) (all_same IsLook n look one)) (All-drop IsLook (c + length run) line old)) each
 
 -- blanks everywhere
 abbrev blank_line : ℕ → List LookView

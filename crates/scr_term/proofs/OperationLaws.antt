@@ -15,7 +15,7 @@ use Rattle.ti_param.specs.ProgramLaws.{AddsOne, WritesDecimal}
 use Rattle.scr_term.specs.declared.operations.capability.Capability.{Capability}
 use Rattle.scr_term.specs.declared.operations.capability.Capability.TheVariants as capability
 use Rattle.scr_term.specs.declared.operations.operation.Op.{Op}
-use Rattle.scr_term.specs.declared.operations.operation.Op.TheVariants.{Home, Move, Column, Line, Up, Down, Left, Right, Return, Clear, EraseLine, EraseBelow, EraseChars, InsertLines, DeleteLines, InsertChars, DeleteChars, Reset, ExitAttributes, Enter, Set, Fore, Back, Put}
+use Rattle.scr_term.specs.declared.operations.operation.Op.TheVariants.{Home, Move, Column, Line, Up, Down, Left, Right, UpBy, DownBy, LeftBy, RightBy, Return, Clear, EraseLine, EraseBelow, EraseChars, InsertLines, DeleteLines, InsertChars, DeleteChars, ScrollUp, ScrollDown, Reset, ExitAttributes, Enter, Set, Fore, Back, Put, Repeat}
 use Rattle.scr_term.specs.declared.operations.operation.Spot.{Spot}
 use Rattle.scr_term.specs.Operations.Pieces.{Piece, Character, Text}
 use Rattle.scr_term.specs.declared.operations.operation.Spot.TheVariants.{At, Margin}
@@ -239,7 +239,7 @@ parts : (profile : ProfileView) (op : Op) → has profile op ≡ true → (is_wi
 unfolding has
 parts profile op had = both_true (is_within profile op) (is_sendable profile (first_piece profile op)) had
 
--- the bundled entry sends nothing that inserts or deletes
+-- the bundled entry sends nothing that inserts, deletes or scrolls
 not_sent : (profile : ProfileView) → IsEcma48 profile → (one many : Capability) (n : ℕ) (P : Type 0) → is_spare one ≡ true → is_spare many ≡ true → is_sendable profile (motion profile one many n) ≡ true → P
 not_sent profile is one many n P first second sends = by (n == 1 && is_there profile one) sends
   where
@@ -292,6 +292,30 @@ leads_by profile is law adds old new s (Right n) had sends h =
     let few = is_count_of n had in
     subst (OpLeads profile old new) (sym (one_piece profile (Right n) (motion profile capability.Cuf1 capability.Cuf n) refl))
     ((horizontal profile is law old new n few.0 few.1).1 (chosen (profile.msgr || is_plain_pen old.pen) (moved_right profile.rows profile.columns old n) new h).1)
+leads_by profile is law adds old new s (UpBy n) had sends h =
+    let few = is_count_of n had in
+    let goes = negative_leads new (moved_up profile.rows profile.columns (negative_state old) n) (moved_up profile.rows profile.columns old n) (up_negative profile.rows profile.columns old n) (chosen (profile.msgr || is_plain_pen old.pen) (moved_up profile.rows profile.columns old n) new h).1 in
+    subst (OpLeads profile old new) (sym (one_text profile is (UpBy n) capability.Cuu (nine (pos n ∷ [])) (control_sequence (decimal n) 65) refl (cuu_text law n (omega (arith, few.1)))))
+    (counted_leads profile.rows profile.columns (negative_state old) (negative_state new) n 65 (omega (arith, few.1)) (omega arith) (omega arith)
+    (counted n (moved_up profile.rows profile.columns (negative_state old)) few.0 ∙ goes))
+leads_by profile is law adds old new s (DownBy n) had sends h =
+    let few = is_count_of n had in
+    let goes = negative_leads new (moved_down profile.rows profile.columns (negative_state old) n) (moved_down profile.rows profile.columns old n) (down_negative profile.rows profile.columns old n) (chosen (profile.msgr || is_plain_pen old.pen) (moved_down profile.rows profile.columns old n) new h).1 in
+    subst (OpLeads profile old new) (sym (one_text profile is (DownBy n) capability.Cud (nine (pos n ∷ [])) (control_sequence (decimal n) 66) refl (cud_text law n (omega (arith, few.1)))))
+    (counted_leads profile.rows profile.columns (negative_state old) (negative_state new) n 66 (omega (arith, few.1)) (omega arith) (omega arith)
+    (counted n (moved_down profile.rows profile.columns (negative_state old)) few.0 ∙ goes))
+leads_by profile is law adds old new s (LeftBy n) had sends h =
+    let few = is_count_of n had in
+    let goes = negative_leads new (moved_left profile.rows profile.columns (negative_state old) n) (moved_left profile.rows profile.columns old n) (left_negative profile.rows profile.columns old n) (chosen (profile.msgr || is_plain_pen old.pen) (moved_left profile.rows profile.columns old n) new h).1 in
+    subst (OpLeads profile old new) (sym (one_text profile is (LeftBy n) capability.Cub (nine (pos n ∷ [])) (control_sequence (decimal n) 68) refl (cub_text law n (omega (arith, few.1)))))
+    (counted_leads profile.rows profile.columns (negative_state old) (negative_state new) n 68 (omega (arith, few.1)) (omega arith) (omega arith)
+    (counted n (moved_left profile.rows profile.columns (negative_state old)) few.0 ∙ goes))
+leads_by profile is law adds old new s (RightBy n) had sends h =
+    let few = is_count_of n had in
+    let goes = negative_leads new (moved_right profile.rows profile.columns (negative_state old) n) (moved_right profile.rows profile.columns old n) (right_negative profile.rows profile.columns old n) (chosen (profile.msgr || is_plain_pen old.pen) (moved_right profile.rows profile.columns old n) new h).1 in
+    subst (OpLeads profile old new) (sym (one_text profile is (RightBy n) capability.Cuf (nine (pos n ∷ [])) (control_sequence (decimal n) 67) refl (cuf_text law n (omega (arith, few.1)))))
+    (counted_leads profile.rows profile.columns (negative_state old) (negative_state new) n 67 (omega (arith, few.1)) (omega arith) (omega arith)
+    (counted n (moved_right profile.rows profile.columns (negative_state old)) few.0 ∙ goes))
 leads_by profile is law adds old new s Return had sends h =
     let goes = negative_leads new (moved_to_column profile.rows profile.columns (negative_state old) 0) (moved_to_column profile.rows profile.columns old 0) (column_negative profile.rows profile.columns old 0) (chosen (profile.msgr || is_plain_pen old.pen) (moved_to_column profile.rows profile.columns old 0) new h).1 in
     subst (OpLeads profile old new) (sym (one_text profile is Return capability.Cr (nine []) (13 ∷ []) refl cr_text))
@@ -319,6 +343,8 @@ leads_by profile is law adds old new s (InsertLines n) had sends h = not_sent pr
 leads_by profile is law adds old new s (DeleteLines n) had sends h = not_sent profile is capability.Dl1 capability.Dl n _ refl refl sends
 leads_by profile is law adds old new s (InsertChars n) had sends h = absurd (false≢true (sym (all_there profile is capability.Ich) ∙ sends))
 leads_by profile is law adds old new s (DeleteChars n) had sends h = not_sent profile is capability.Dch1 capability.Dch n _ refl refl sends
+leads_by profile is law adds old new s (ScrollUp n) had sends h = not_sent profile is capability.Ind capability.Indn n _ refl refl sends
+leads_by profile is law adds old new s (ScrollDown n) had sends h = not_sent profile is capability.Ri capability.Rin n _ refl refl sends
 leads_by profile is law adds old new s Reset had sends h =
     let next : TerminalState = record old { pen = plain_pen } in
     subst (λ z. OpLeads profile old z (bytes_of profile Reset)) (same_some next new h)
@@ -358,6 +384,7 @@ leads_by profile is law adds old new s (Put byte) had sends h =
     let low : 32 ≤ byte = grind (arith, nat_tests) in
     let high : byte ≤ 126 = grind (arith, nat_tests) in
     subst (OpLeads profile old new) (sym (one_piece profile (Put byte) (Character byte) refl)) (put_leads profile.rows profile.columns byte old new old.spot refl low high h)
+leads_by profile is law adds old new s (Repeat byte n) had sends h = absurd (false≢true (sym (all_there profile is capability.Rep) ∙ sends))
 
 pub bytes_act_as_their_operation : WritesDecimal → AddsOne → BytesActAsTheirOperation
 bytes_act_as_their_operation law adds profile is old new s op h =

@@ -1,25 +1,26 @@
 -- What steps and runs keep.
-use Rattle.std.proofs.Common.{◌≡◌, ℕ, ◌+◌, ◌-◌, ◌<◌, ◌≤◌, ◌&&◌, ◌||◌, ◌==◌, Bool, true, false, cond, refl, sym, ◌∙◌, ap, subst, arith, List, [], ◌∷◌, ◌++◌, Option, Some, None, option_and_then, bit_and, nat_le, nat_lt, is_none}
+use Rattle.std.proofs.Common.{◌≡◌, ℕ, replicate, ◌+◌, ◌-◌, ◌<◌, ◌≤◌, ◌&&◌, ◌||◌, ◌==◌, Bool, true, false, cond, refl, sym, ◌∙◌, ap, subst, arith, List, [], ◌∷◌, ◌++◌, Option, Some, None, option_and_then, bit_and, nat_le, nat_lt, is_none}
 use Rattle.std.specs.List.{AllByRecursion}
 use Rattle.std.proofs.lemmas.List.Concat.{flat_map-append}
 use Rattle.std.proofs.lemmas.List.Elements.{All-from_recursion}
 use Rattle.std.proofs.lemmas.Bool.{eqb-true}
 use Rattle.std.proofs.lemmas.Bool.Decides.{nat_tests}
-use Rattle.scr_cells.specs.Grids.{grid_at, grid_with, is_in_run, places_left, places_right, rows_down, rows_up}
+use Rattle.scr_cells.specs.CellViews.{is_character}
+use Rattle.scr_cells.specs.Grids.{grid_at, grid_with, grid_with_run, is_in_run, places_left, places_right, rows_down, rows_up}
 use Rattle.scr_cells.specs.LookViews.{LookView, IsLook, blank}
 use Rattle.scr_cells.specs.PenViews.{PenView, is_plain_pen, plain_pen}
 use Rattle.scr_term.specs.declared.operations.operation.Op.{Op}
-use Rattle.scr_term.specs.declared.operations.operation.Op.TheVariants.{Home, Move, Column, Line, Up, Down, Left, Right, Return, Clear, EraseLine, EraseBelow, EraseChars, InsertLines, DeleteLines, InsertChars, DeleteChars, Reset, ExitAttributes, Enter, Set, Fore, Back, Put}
+use Rattle.scr_term.specs.declared.operations.operation.Op.TheVariants.{Home, Move, Column, Line, Up, Down, Left, Right, UpBy, DownBy, LeftBy, RightBy, Return, Clear, EraseLine, EraseBelow, EraseChars, InsertLines, DeleteLines, InsertChars, DeleteChars, ScrollUp, ScrollDown, Reset, ExitAttributes, Enter, Set, Fore, Back, Put, Repeat}
 use Rattle.scr_term.specs.declared.operations.operation.Spot.{Spot}
 use Rattle.scr_term.specs.declared.operations.operation.Spot.TheVariants.{At, Margin}
 use Rattle.scr_term.specs.Operations.Abilities.{Abilities, AreAbilities}
 use Rattle.scr_term.specs.Operations.Profiles.{ProfileView, IsProfile, abilities, shown_set}
 use Rattle.scr_term.specs.Operations.States.{TerminalState, AreShownColours, IsShownPen, IsSpot, IsState, blank_state, erased, from_place, is_from_place, moved_to, shifted, spot_after, written_at}
 use Rattle.scr_term.specs.Operations.Steps.{act, erasure_made, motion_made, step, runs}
-use Rattle.scr_term.specs.Operations.Texts.{bytes_of, has}
+use Rattle.scr_term.specs.Operations.Texts.{bytes_of, has, is_repetition}
 use Rattle.scr_term.specs.Operations.Laws.{BlankLaws, RunLaws, StepsKeepStates}
 use Rattle.scr_term.proofs.ChoiceLaws.{both_true, chosen, no_some, same_some, then_some}
-use Rattle.scr_term.proofs.LookGridLaws.{all_blank, down_is_look, filled_all, filled_is_grid, formed_all, formed_is_grid, is_blank, left_is_look, negative_blank, put_all, put_is_grid, right_is_look, up_is_look}
+use Rattle.scr_term.proofs.LookGridLaws.{all_blank, down_is_look, filled_all, filled_is_grid, formed_all, formed_is_grid, is_blank, left_is_look, negative_blank, put_all, put_is_grid, right_is_look, run_all, run_is_grid, up_is_look}
 use Rattle.scr_term.proofs.ProfileLaws.{abilities_are, entered_is_shown, is_had}
 use Rattle.scr_term.proofs.ShownPenLaws.{more_is_shown, plain_is_shown, set_is_shown, shown_is_pen}
 
@@ -98,6 +99,18 @@ put_keeps a are old s byte (At r c) inside low high =
     next_spot true e = (inside.0, grind (arith, nat_tests))
     next_spot false e = inside.0
 
+repeat_keeps : (a : Abilities) → AreAbilities a → (old : TerminalState) → IsState a old → (byte n r c : ℕ) → 32 ≤ byte → byte ≤ 126 → r < a.rows → c + n < a.columns
+    → IsState a (record old { grid = grid_with_run old.grid r c (replicate n (record { byte = byte; pen = old.pen })); spot = At r (c + n) })
+repeat_keeps a are old s byte n r c low high row_in fits =
+    let look : LookView = record { byte = byte; pen = old.pen } in
+    let is : IsLook look = record { character = (low, high); pen = shown_is_pen a are.shown old.pen s.pen } in
+    record {
+      whole = run_is_grid a.rows a.columns old.grid r c n look s.whole row_in (omega (arith, fits));
+      looks = run_all a.rows a.columns old.grid r c n look s.whole row_in is s.looks;
+      spot = (row_in, fits);
+      pen = s.pen;
+    }
+
 -- ---- each operation
 
 fore_is_shown : (a : Abilities) (pen : PenView) (n : ℕ) → IsShownPen a pen → n < 8 → a.colours ≡ true → IsShownPen a (record pen { foreground = Some n })
@@ -130,6 +143,12 @@ keeps profile p old s (Down n) had = motion profile old _ (place_keeps (abilitie
 keeps profile p old s (Left n) had =
     motion profile old _ (place_keeps (abilities profile) old.spot _ s.spot (λ r c row_in column_in. tested_keeps (abilities profile) (nat_le n c) _ (λ t. to_keeps (abilities profile) old r (c - n) s)))
 keeps profile p old s (Right n) had = motion profile old _ (place_keeps (abilities profile) old.spot _ s.spot (λ r c row_in column_in. to_keeps (abilities profile) old r (c + n) s))
+keeps profile p old s (UpBy n) had =
+    motion profile old _ (place_keeps (abilities profile) old.spot _ s.spot (λ r c row_in column_in. tested_keeps (abilities profile) (nat_le n r) _ (λ t. to_keeps (abilities profile) old (r - n) c s)))
+keeps profile p old s (DownBy n) had = motion profile old _ (place_keeps (abilities profile) old.spot _ s.spot (λ r c row_in column_in. to_keeps (abilities profile) old (r + n) c s))
+keeps profile p old s (LeftBy n) had =
+    motion profile old _ (place_keeps (abilities profile) old.spot _ s.spot (λ r c row_in column_in. tested_keeps (abilities profile) (nat_le n c) _ (λ t. to_keeps (abilities profile) old r (c - n) s)))
+keeps profile p old s (RightBy n) had = motion profile old _ (place_keeps (abilities profile) old.spot _ s.spot (λ r c row_in column_in. to_keeps (abilities profile) old r (c + n) s))
 keeps profile p old s Return had = motion profile old _ (place_keeps (abilities profile) old.spot _ s.spot (λ r c row_in column_in. to_keeps (abilities profile) old r 0 s))
 keeps profile p old s Clear had = erasure profile old _ (some_keeps (abilities profile) _ (blank_keeps (abilities profile) (abilities_are profile p) old.pen s.pen))
 keeps profile p old s EraseLine had =
@@ -152,6 +171,12 @@ keeps profile p old s (InsertChars n) had =
 keeps profile p old s (DeleteChars n) had =
     erasure profile old _ (place_keeps (abilities profile) old.spot _ s.spot (λ r c row_in column_in. tested_keeps (abilities profile) (nat_le (c + n) profile.columns) _
     (λ t. some_keeps (abilities profile) _ (shifted_keeps (abilities profile) old (places_left r c profile.columns n) s (left_is_look r c profile.columns n old.grid s.looks)))))
+keeps profile p old s (ScrollUp n) had =
+    erasure profile old _ (place_keeps (abilities profile) old.spot _ s.spot (λ r c row_in column_in. tested_keeps (abilities profile) (c == 0 && r + 1 == profile.rows && nat_le n profile.rows) _
+    (λ t. some_keeps (abilities profile) _ (shifted_keeps (abilities profile) old (rows_up 0 profile.rows n) s (up_is_look 0 profile.rows n old.grid s.looks)))))
+keeps profile p old s (ScrollDown n) had =
+    erasure profile old _ (place_keeps (abilities profile) old.spot _ s.spot (λ r c row_in column_in. tested_keeps (abilities profile) (c == 0 && r == 0 && nat_le n profile.rows) _
+    (λ t. some_keeps (abilities profile) _ (shifted_keeps (abilities profile) old (rows_down 0 profile.rows n) s (down_is_look 0 profile.rows n old.grid s.looks)))))
 keeps profile p old s Reset had = some_keeps (abilities profile) _ (rendered (abilities profile) old plain_pen s (plain_is_shown (abilities profile)))
 keeps profile p old s ExitAttributes had =
     tested_keeps (abilities profile) (is_none old.pen.foreground && is_none old.pen.background) _ (λ t. some_keeps (abilities profile) _ (rendered (abilities profile) old plain_pen s (plain_is_shown (abilities profile))))
@@ -173,6 +198,12 @@ keeps profile p old s (Put byte) had =
     let low : 32 ≤ byte = grind (arith, nat_tests, within) in
     let high : byte ≤ 126 = grind (arith, nat_tests, within) in
     put_keeps (abilities profile) (abilities_are profile p) old s byte old.spot s.spot low high
+keeps profile p old s (Repeat byte n) had =
+    let is : is_character byte ≡ true = (both_true (is_character byte) (is_repetition n) (is_had profile (Repeat byte n) had).0).0 in
+    let low : 32 ≤ byte = grind (arith, nat_tests, is) in
+    let high : byte ≤ 126 = grind (arith, nat_tests, is) in
+    place_keeps (abilities profile) old.spot _ s.spot (λ r c row_in column_in. tested_keeps (abilities profile) (nat_lt (c + n) profile.columns) _
+    (λ t. some_keeps (abilities profile) _ (repeat_keeps (abilities profile) (abilities_are profile p) old s byte n r c low high row_in (grind (arith, nat_tests, t)))))
 
 pub steps_keep_states : StepsKeepStates
 steps_keep_states profile p old new s op h =

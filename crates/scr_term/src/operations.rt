@@ -12,6 +12,7 @@ mod prices;
 mod profile_faults;
 mod profiles;
 mod rendering;
+mod spares;
 
 pub use admission::{program_at, sent_at};
 pub use capability::Capability;

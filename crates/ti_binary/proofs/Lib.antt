@@ -1,4 +1,5 @@
 pub mod KeptLaws
+pub mod NulLaws
 pub mod OffsetLaws
 pub mod CanonicalLaws
 pub mod WordLaws

@@ -200,12 +200,16 @@ room_refusal width bytes =
     if has_bad_count bytes then Some BadCount else
     (if nat_lt (length bytes) (end_place width bytes) then Some Truncated else None)
 
+-- Why they are none, by the offsets of the texts.
+abbrev pub offsets_refusal : List ℕ → List ℕ → Option BinFault
+offsets_refusal table offsets =
+    if list_any (is_outside table) offsets then Some BadOffset else
+    (if list_any (is_unended table) offsets then Some Unended else None)
+
 -- Why they are none, by the contents of the sections.
 abbrev pub sections_refusal : List ℕ → List ℕ → List ℕ → Option BinFault
 sections_refusal names table offsets =
-    if has_bad_names names then Some BadNames else
-    (if list_any (is_outside table) offsets then Some BadOffset else
-    (if list_any (is_unended table) offsets then Some Unended else None))
+    if has_bad_names names then Some BadNames else offsets_refusal table offsets
 
 -- The first of these reasons that applies, in this order, if any.
 abbrev pub refusal : Width → List ℕ → Option BinFault

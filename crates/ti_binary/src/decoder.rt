@@ -2,13 +2,13 @@
 ghost use Rattle.std.specs.Prelude.{◌≡◌, ◌≤◌, ◌*◌, ◌⊎◌, false, true, length, IfOk, IfErr, OnOk, None, Some, IsErrOf, IsOkUnless};
 ghost use Rattle.std.specs.List.{before_first, list_any};
 ghost use Rattle.ti_caps.specs.Names.{are_names};
-ghost use Rattle.ti_binary.specs.Files.{Reads, clamped_of, has_bad_names, is_nul, is_outside, is_unended, refusal, words_in};
+ghost use Rattle.ti_binary.specs.Files.{Reads, clamped_of, has_bad_names, is_nul, is_outside, is_unended, offsets_refusal, refusal, words_in};
 ghost use Rattle.ti_binary.specs.declared.widths.Width.TheVariants.{Legacy, Wide};
 
 use crate::faults::BinFault;
 use crate::filler::{set_flags, set_numbers, set_texts, want_of_memory};
 use crate::parts::{check_header, check_room, cut, word};
-use crate::texts::{before_nul, has_nul, rest_from};
+use crate::texts::{before_nul, has_nul, through_last_nul};
 use crate::widths::Width;
 use std::alloc::Global;
 use ti_caps::{Entry, MOST_NUMBER, are_names};
@@ -69,12 +69,7 @@ fn read(alloc: Global, width: Width, bytes: &[u8]) -> Result<Decoded, BinFault>
     check_room(width, bytes)?;
     let parts = cut(width, bytes);
     let names = names_in(parts.names)?;
-    if any_outside(parts.table, parts.offsets, parts.offset_count) {
-        return Err(BinFault::BadOffset);
-    }
-    if any_unended(parts.table, parts.offsets, parts.offset_count) {
-        return Err(BinFault::Unended);
-    }
+    check_offsets(parts.table, parts.offsets, parts.offset_count)?;
     let mut entry = match Entry::new(alloc, names) {
         Ok(entry) => entry,
         Err(fault) => return Err(want_of_memory(fault)),
@@ -112,13 +107,6 @@ fn is_outside(table: &[u8], offset: u16) -> bool
     offset <= MOST_NUMBER && usize::from(offset) >= table.len()
 }
 
-// Whether the text at an offset has no NUL in the table. A negative offset has no text.
-fn is_unended(table: &[u8], offset: u16) -> bool
-    ensures { result ≡ is_unended table.now offset }
-{
-    offset <= MOST_NUMBER && !has_nul(rest_from(table, usize::from(offset)))
-}
-
 // Whether any of the first `count` offsets is past the end of the table.
 fn any_outside(table: &[u8], offsets: &[u8], count: u16) -> bool
     requires { 2 * count ≤ length offsets.now }
@@ -131,14 +119,29 @@ fn any_outside(table: &[u8], offsets: &[u8], count: u16) -> bool
     found
 }
 
-// Whether the text at any of the first `count` offsets has no NUL in the table.
+// Whether the text at any of the first `count` offsets has no NUL in the table: it begins behind the last NUL.
 fn any_unended(table: &[u8], offsets: &[u8], count: u16) -> bool
     requires { 2 * count ≤ length offsets.now }
     ensures { result ≡ list_any (is_unended table.now) (words_in offsets.now count) }
 {
-    let mut found = false;
-    for i in 0..count {
-        found |= is_unended(table, word(offsets, 2 * usize::from(i)));
+    any_outside(through_last_nul(table), offsets, count)
+}
+
+// Refuses a text that begins past the end of the table, and then one that has no NUL there. A text of the first kind is
+// of the second too, so one pass is enough where all is right.
+fn check_offsets(table: &[u8], offsets: &[u8], count: u16) -> Result<(), BinFault>
+    requires { 2 * count ≤ length offsets.now }
+    ensures refused { IfErr result (λ fault. offsets_refusal table.now (words_in offsets.now count) ≡ Some fault) }
+    ensures plain { IsErrOf result BinFault.NoMemory → ⊥ }
+    ensures good { OnOk result (offsets_refusal table.now (words_in offsets.now count) ≡ None) }
+    ensures inside { OnOk result (list_any (is_outside table.now) (words_in offsets.now count) ≡ false) }
+    ensures ended { OnOk result (list_any (is_unended table.now) (words_in offsets.now count) ≡ false) }
+{
+    if !any_unended(table, offsets, count) {
+        return Ok(());
     }
-    found
+    if any_outside(table, offsets, count) {
+        return Err(BinFault::BadOffset);
+    }
+    Err(BinFault::Unended)
 }

@@ -1,5 +1,5 @@
 //! Texts within bytes, each ended by a NUL.
-ghost use Rattle.std.specs.Prelude.{◌≡◌, drop};
+ghost use Rattle.std.specs.Prelude.{ℕ, ◌≡◌, drop, length, nat_lt};
 ghost use Rattle.std.specs.List.{before_first, list_any};
 ghost use Rattle.ti_binary.specs.Files.{is_nul};
 
@@ -8,6 +8,20 @@ pub(crate) fn has_nul(bytes: &[u8]) -> bool
     ensures { result ≡ list_any is_nul bytes.now }
 {
     bytes.iter().any(|byte| *byte == 0)
+}
+
+/// The bytes up to the last NUL, with it; none if there is none. A NUL comes at or behind the places of these alone.
+pub(crate) fn through_last_nul(bytes: &[u8]) -> &[u8]
+    ensures { (place : ℕ) → nat_lt place (length result.now) ≡ list_any is_nul (drop place bytes.now) }
+{
+    let mut end = bytes.len();
+    while end > 0 {
+        if bytes[end - 1] == 0 {
+            return &bytes[..end];
+        }
+        end -= 1;
+    }
+    &bytes[..0]
 }
 
 /// The bytes before the first NUL; all if there is none.

@@ -5,7 +5,7 @@ use Rattle.std.specs.Str.{bytes_eq}
 use Rattle.ti_caps.specs.declared.table.Kind.{Kind}
 use Rattle.ti_caps.specs.declared.table.Kind.TheVariants.{Flag, Number, Text}
 use Rattle.ti_caps.specs.declared.table.Slot.{Slot}
-use Rattle.ti_caps.specs.declared.slots.TheConstants.{AM, XHP, XENL, GN, HC, IN, DA, DB, MSGR, OS, XT, HZ, UL, SAM, COLS, LINES, XMC, COLORS, PAIRS, NCV, CR, CLEAR, EL, ED, HPA, CUP, CUD1, HOME, CUB1, CUF1, CUU1, DCH1, DL1, BLINK, BOLD, SMCUP, SMDC, DIM, INVIS, REV, SMSO, SMUL, ECH, SGR0, RMCUP, IL1, KBS, KCUD1, KCUB1, KCUF1, KCUU1, RMKX, SMKX, DCH, DL, CUD, ICH, IL, CUB, CUF, CUU, VPA, SGR, OP, SETAF, SETAB}
+use Rattle.ti_caps.specs.declared.slots.TheConstants.{AM, XHP, XENL, GN, HC, IN, DA, DB, MSGR, OS, XT, HZ, UL, SAM, COLS, LINES, XMC, COLORS, PAIRS, NCV, CR, CLEAR, EL, ED, HPA, CUP, CUD1, HOME, CUB1, CUF1, CUU1, DCH1, DL1, BLINK, BOLD, SMCUP, SMDC, DIM, INVIS, REV, SMSO, SMUL, ECH, SGR0, RMCUP, IL1, KBS, KCUD1, KCUB1, KCUF1, KCUU1, RMKX, SMKX, DCH, DL, CUD, ICH, INDN, IL, CUB, CUF, RIN, CUU, REP, VPA, IND, RI, SGR, OP, SETAF, SETAB}
 use Rattle.ti_caps.specs.Table.{name_at}
 
 -- The number of positions of a kind.
@@ -91,11 +91,16 @@ texts_are_named =
     ∷ is_slot_of Text DL (codes "dl")
     ∷ is_slot_of Text CUD (codes "cud")
     ∷ is_slot_of Text ICH (codes "ich")
+    ∷ is_slot_of Text INDN (codes "indn")
     ∷ is_slot_of Text IL (codes "il")
     ∷ is_slot_of Text CUB (codes "cub")
     ∷ is_slot_of Text CUF (codes "cuf")
+    ∷ is_slot_of Text RIN (codes "rin")
     ∷ is_slot_of Text CUU (codes "cuu")
+    ∷ is_slot_of Text REP (codes "rep")
     ∷ is_slot_of Text VPA (codes "vpa")
+    ∷ is_slot_of Text IND (codes "ind")
+    ∷ is_slot_of Text RI (codes "ri")
     ∷ is_slot_of Text SGR (codes "sgr")
     ∷ is_slot_of Text OP (codes "op")
     ∷ is_slot_of Text SETAF (codes "setaf")

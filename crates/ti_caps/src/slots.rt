@@ -125,16 +125,26 @@ pub const DL: Slot = Slot(106);
 pub const CUD: Slot = Slot(107);
 /// `ich`.
 pub const ICH: Slot = Slot(108);
+/// `indn`.
+pub const INDN: Slot = Slot(109);
 /// `il`.
 pub const IL: Slot = Slot(110);
 /// `cub`.
 pub const CUB: Slot = Slot(111);
 /// `cuf`.
 pub const CUF: Slot = Slot(112);
+/// `rin`.
+pub const RIN: Slot = Slot(113);
 /// `cuu`.
 pub const CUU: Slot = Slot(114);
+/// `rep`.
+pub const REP: Slot = Slot(121);
 /// `vpa`.
 pub const VPA: Slot = Slot(127);
+/// `ind`.
+pub const IND: Slot = Slot(129);
+/// `ri`.
+pub const RI: Slot = Slot(130);
 /// `sgr`.
 pub const SGR: Slot = Slot(131);
 /// `op`.

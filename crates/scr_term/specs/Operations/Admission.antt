@@ -15,7 +15,7 @@ use Rattle.ti_param.specs.Parsed.{parsed}
 use Rattle.ti_param.specs.Stripped.{stripped}
 use Rattle.ti_param.specs.Tree.{Tree, bound, depth}
 use Rattle.scr_term.specs.declared.operations.capability.Capability.{Capability}
-use Rattle.scr_term.specs.declared.operations.capability.Capability.TheVariants.{Clear, Cup, Il1, Il, Dl1, Dl, Ich, Dch1, Dch}
+use Rattle.scr_term.specs.declared.operations.capability.Capability.TheVariants.{Clear, Cup, Il1, Il, Dl1, Dl, Ich, Dch1, Dch, Ind, Ri, Indn, Rin}
 use Rattle.scr_term.specs.declared.operations.profile_faults.ProfileFault.{ProfileFault}
 use Rattle.scr_term.specs.declared.operations.profile_faults.ProfileFault.TheVariants.{Unsuitable, AutoMargin, Missing, NoSize, BadSize, BadString, LongString, NoMemory}
 use Rattle.scr_term.specs.Operations.Capabilities.{each_capability, each_spare, slot_of}
@@ -43,14 +43,18 @@ program_at entry slot = option_and_then parsed (sent_at entry slot)
 abbrev pub planned_program : Description → Capability → Option Tree
 planned_program entry capability = program_at entry (slot_of capability)
 
--- A text of a spare capability is not used where what it moves could come back or be moved otherwise: lines where the
--- terminal keeps those that went off the screen (`da`, `db`), inserted characters where it tells blanks that were
--- written from others (`in`), deleted ones where a mode has to be entered first (`smdc`).
+-- A text of a spare capability is not used where what it moves could come back or be moved otherwise: lines, also those
+-- that scroll, where the terminal keeps those that went off the screen (`da`, `db`), inserted characters where it tells
+-- blanks that were written from others (`in`), deleted ones where a mode has to be entered first (`smdc`).
 abbrev pub is_spoiled : Description → Capability → Bool
 is_spoiled entry Il1 = flag_at entry DA.0 || flag_at entry DB.0
 is_spoiled entry Il = flag_at entry DA.0 || flag_at entry DB.0
 is_spoiled entry Dl1 = flag_at entry DA.0 || flag_at entry DB.0
 is_spoiled entry Dl = flag_at entry DA.0 || flag_at entry DB.0
+is_spoiled entry Ind = flag_at entry DA.0 || flag_at entry DB.0
+is_spoiled entry Ri = flag_at entry DA.0 || flag_at entry DB.0
+is_spoiled entry Indn = flag_at entry DA.0 || flag_at entry DB.0
+is_spoiled entry Rin = flag_at entry DA.0 || flag_at entry DB.0
 is_spoiled entry Ich = flag_at entry IN.0
 is_spoiled entry Dch1 = is_some (sent_at entry SMDC)
 is_spoiled entry Dch = is_some (sent_at entry SMDC)
@@ -65,10 +69,16 @@ within_limits (Some program) = if nat_le (depth program) 20 && nat_le (bound pro
 abbrev pub program_without_line_feed : List ℕ → Option Tree
 program_without_line_feed text = if list_any (λ byte. byte == 10) text then None else within_limits (parsed text)
 
+-- The program of the text of this spare capability. Only `ind` may have a line feed, which is all of it on most
+-- terminals; it is sent in the first column, where a carriage return more changes nothing.
+abbrev pub used_program : Capability → List ℕ → Option Tree
+used_program Ind text = within_limits (parsed text)
+used_program _ text = program_without_line_feed text
+
 -- The program of a spare capability: none where its text cannot be used.
 abbrev pub spare_program : Description → Capability → Option Tree
 spare_program entry capability =
-    if is_spoiled entry capability then None else option_and_then program_without_line_feed (sent_text entry capability)
+    if is_spoiled entry capability then None else option_and_then (used_program capability) (sent_text entry capability)
 
 -- The number is present and at least this.
 abbrev pub is_at_least : ℕ → Option ℕ → Bool

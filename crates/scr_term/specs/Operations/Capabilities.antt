@@ -1,9 +1,9 @@
 -- The capabilities whose texts operations send. terminfo(5), 'Predefined Capabilities'.
 use Rattle.std.specs.Prelude.{ℕ, List, [], ◌∷◌}
 use Rattle.ti_caps.specs.declared.table.Slot.{Slot}
-use Rattle.ti_caps.specs.declared.slots.TheConstants.{CR, CLEAR, EL, ED, HPA, CUP, CUD1, HOME, CUB1, CUF1, CUU1, BLINK, BOLD, DIM, INVIS, REV, SMSO, SMUL, ECH, SGR0, CUD, CUB, CUF, CUU, VPA, SGR, OP, SETAF, SETAB, IL1, IL, DL1, DL, ICH, DCH1, DCH}
+use Rattle.ti_caps.specs.declared.slots.TheConstants.{CR, CLEAR, EL, ED, HPA, CUP, CUD1, HOME, CUB1, CUF1, CUU1, BLINK, BOLD, DIM, INVIS, REV, SMSO, SMUL, ECH, SGR0, CUD, CUB, CUF, CUU, VPA, SGR, OP, SETAF, SETAB, IL1, IL, DL1, DL, ICH, DCH1, DCH, IND, RI, INDN, RIN, REP}
 use Rattle.scr_term.specs.declared.operations.capability.Capability.{Capability}
-use Rattle.scr_term.specs.declared.operations.capability.Capability.TheVariants.{Cr, Clear, El, Ed, Hpa, Cup, Cud1, Home, Cub1, Cuf1, Cuu1, Blink, Bold, Dim, Invis, Rev, Smso, Smul, Ech, Sgr0, Cud, Cub, Cuf, Cuu, Vpa, Sgr, Op, Setaf, Setab, Il1, Il, Dl1, Dl, Ich, Dch1, Dch}
+use Rattle.scr_term.specs.declared.operations.capability.Capability.TheVariants.{Cr, Clear, El, Ed, Hpa, Cup, Cud1, Home, Cub1, Cuf1, Cuu1, Blink, Bold, Dim, Invis, Rev, Smso, Smul, Ech, Sgr0, Cud, Cub, Cuf, Cuu, Vpa, Sgr, Op, Setaf, Setab, Il1, Il, Dl1, Dl, Ich, Dch1, Dch, Ind, Ri, Indn, Rin, Rep}
 
 -- The position of a capability among the texts of an entry.
 abbrev pub slot_of : Capability → Slot
@@ -43,6 +43,11 @@ slot_of Dl = DL
 slot_of Ich = ICH
 slot_of Dch1 = DCH1
 slot_of Dch = DCH
+slot_of Ind = IND
+slot_of Ri = RI
+slot_of Indn = INDN
+slot_of Rin = RIN
+slot_of Rep = REP
 
 -- All of these capabilities but the spare ones, in the order of their positions.
 abbrev pub each_capability : List Capability
@@ -50,9 +55,10 @@ each_capability =
     Cr ∷ Clear ∷ El ∷ Ed ∷ Hpa ∷ Cup ∷ Cud1 ∷ Home ∷ Cub1 ∷ Cuf1 ∷ Cuu1 ∷ Blink ∷ Bold ∷ Dim ∷ Invis ∷ Rev ∷ Smso ∷ Smul ∷ Ech
     ∷ Sgr0 ∷ Cud ∷ Cub ∷ Cuf ∷ Cuu ∷ Vpa ∷ Sgr ∷ Op ∷ Setaf ∷ Setab ∷ []
 
--- The spare capabilities: those that insert and delete lines and characters. A terminal can do without each.
+-- The spare capabilities: those that insert and delete lines and characters, that scroll, and that repeat a character.
+-- A terminal can do without each.
 abbrev pub each_spare : List Capability
-each_spare = Il1 ∷ Il ∷ Dl1 ∷ Dl ∷ Ich ∷ Dch1 ∷ Dch ∷ []
+each_spare = Il1 ∷ Il ∷ Dl1 ∷ Dl ∷ Ich ∷ Dch1 ∷ Dch ∷ Ind ∷ Ri ∷ Indn ∷ Rin ∷ Rep ∷ []
 
 -- The number of a capability in these lists, one after the other, from 0.
 abbrev pub ordinal : Capability → ℕ
@@ -92,3 +98,8 @@ ordinal Dl = 32
 ordinal Ich = 33
 ordinal Dch1 = 34
 ordinal Dch = 35
+ordinal Ind = 36
+ordinal Ri = 37
+ordinal Indn = 38
+ordinal Rin = 39
+ordinal Rep = 40

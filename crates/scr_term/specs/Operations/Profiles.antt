@@ -66,7 +66,7 @@ pub record IsPlanned (program : Tree) : Type 0 where
 -- `clear`.
 pub record IsProfile (profile : ProfileView) : Type 0 where
   pub size : IsSize profile.rows profile.columns
-  pub whole : length profile.programs ≡ 36
+  pub whole : length profile.programs ≡ 41
   pub programs : All (λ program. IfSome program IsPlanned) profile.programs
   pub cup : is_there profile Cup ≡ true
   pub clear : is_there profile Clear ≡ true

@@ -1,7 +1,7 @@
 -- The state of a terminal: what its screen shows, where its cursor is, and what it writes with. terminfo(5), 'Cursor
 -- Motions' and 'Highlighting'; ECMA-48, 'active presentation position'.
-use Rattle.std.specs.Prelude.{ℕ, ◌≡◌, ◌+◌, ◌-◌, ◌<◌, ◌==◌, ◌&&◌, ◌||◌, Bool, true, false, List, All, bit_and, nat_le, nat_lt, if◌then◌else◌, Option, Some, None, IfSome}
-use Rattle.scr_cells.specs.Grids.{IsGrid, grid_at, grid_filled, grid_of, grid_with, is_in_run, places_left, places_right, rows_down, rows_up}
+use Rattle.std.specs.Prelude.{ℕ, ◌≡◌, ◌+◌, ◌-◌, ◌<◌, ◌==◌, ◌&&◌, ◌||◌, Bool, true, false, List, All, bit_and, nat_le, nat_lt, if◌then◌else◌, Option, Some, None, IfSome, replicate}
+use Rattle.scr_cells.specs.Grids.{IsGrid, grid_at, grid_filled, grid_of, grid_with, grid_with_run, is_in_run, places_left, places_right, rows_down, rows_up}
 use Rattle.scr_cells.specs.LookViews.{LookView, IsLook, blank, blank_grid, negative_grid}
 use Rattle.scr_cells.specs.PenViews.{PenView, IsColour, negative_pen, plain_pen}
 use Rattle.scr_term.specs.Operations.Abilities.{Abilities}
@@ -135,3 +135,24 @@ characters_inserted rows columns state n =
 abbrev pub characters_deleted : ℕ → ℕ → TerminalState → ℕ → Option TerminalState
 characters_deleted rows columns state n =
     from_place state.spot (λ r c. if nat_le (c + n) columns then Some (shifted rows columns (places_left r c columns n) state) else None)
+
+-- All lines go up by n: the first n are lost, and n blank ones come in below. Undefined outside the bottom left corner,
+-- and for more lines than there are.
+abbrev pub scrolled_up : ℕ → ℕ → TerminalState → ℕ → Option TerminalState
+scrolled_up rows columns state n =
+    from_place state.spot (λ r c. if c == 0 && r + 1 == rows && nat_le n rows then Some (shifted rows columns (rows_up 0 rows n) state) else None)
+
+-- All lines go down by n: the last n are lost, and n blank ones come in above. Undefined outside the top left corner,
+-- and for more lines than there are.
+abbrev pub scrolled_down : ℕ → ℕ → TerminalState → ℕ → Option TerminalState
+scrolled_down rows columns state n =
+    from_place state.spot (λ r c. if c == 0 && r == 0 && nat_le n rows then Some (shifted rows columns (rows_down 0 rows n) state) else None)
+
+-- A character is written n times from the cursor on, with the pen, and the cursor goes behind the last; undefined at the
+-- margin, and where the last column would be written.
+abbrev pub character_repeated : ℕ → TerminalState → ℕ → ℕ → Option TerminalState
+character_repeated columns state byte n =
+    from_place state.spot (λ r c. if nat_lt (c + n) columns then Some (record state {
+      grid = grid_with_run state.grid r c (replicate n (record { byte = byte; pen = state.pen }));
+      spot = At r (c + n);
+    }) else None)

@@ -1,5 +1,5 @@
 -- What each operation sends: a character, or the texts of capabilities with their parameters. terminfo(5), 'Basic
--- Capabilities', 'Cursor Motions', 'Area Clears', 'Highlighting' and 'Color Handling'.
+-- Capabilities', 'Cursor Motions', 'Area Clears', 'Scrolling', 'Highlighting', 'Color Handling' and 'Miscellaneous'.
 use Rattle.std.specs.Prelude.{ℕ, ◌==◌, ◌&&◌, Bool, true, false, nat_lt, nat_le, ℤ, pos, List, [], ◌∷◌, ◌++◌, map, take, replicate, Option, Some, None, bit_and, if◌then◌else◌}
 use Rattle.std.specs.List.{flat_map, list_any}
 use Rattle.scr_cells.specs.Attributes.{all_attributes, standout, underline, reverse, blink, dim, bold, invis}
@@ -9,7 +9,7 @@ use Rattle.ti_param.specs.Tree.{Tree, start, value}
 use Rattle.scr_term.specs.declared.operations.capability.Capability.{Capability}
 use Rattle.scr_term.specs.declared.operations.capability.Capability.TheVariants as capability
 use Rattle.scr_term.specs.declared.operations.operation.Op.{Op}
-use Rattle.scr_term.specs.declared.operations.operation.Op.TheVariants.{Home, Move, Column, Line, Up, Down, Left, Right, Return, Clear, EraseLine, EraseBelow, EraseChars, InsertLines, DeleteLines, InsertChars, DeleteChars, Reset, ExitAttributes, Enter, Set, Fore, Back, Put}
+use Rattle.scr_term.specs.declared.operations.operation.Op.TheVariants.{Home, Move, Column, Line, Up, Down, Left, Right, UpBy, DownBy, LeftBy, RightBy, Return, Clear, EraseLine, EraseBelow, EraseChars, InsertLines, DeleteLines, InsertChars, DeleteChars, ScrollUp, ScrollDown, Reset, ExitAttributes, Enter, Set, Fore, Back, Put, Repeat}
 use Rattle.scr_term.specs.Operations.Pieces.{Piece, Character, Text}
 use Rattle.scr_term.specs.Operations.Profiles.{ProfileView, entering, has_colours, is_shown, is_there, program_of, shown_set}
 
@@ -51,6 +51,10 @@ first_piece profile (Up n) = motion profile capability.Cuu1 capability.Cuu n
 first_piece profile (Down n) = motion profile capability.Cud1 capability.Cud n
 first_piece profile (Left n) = motion profile capability.Cub1 capability.Cub n
 first_piece profile (Right n) = motion profile capability.Cuf1 capability.Cuf n
+first_piece profile (UpBy n) = text_of_one capability.Cuu n
+first_piece profile (DownBy n) = text_of_one capability.Cud n
+first_piece profile (LeftBy n) = text_of_one capability.Cub n
+first_piece profile (RightBy n) = text_of_one capability.Cuf n
 first_piece profile Return = text capability.Cr
 first_piece profile Clear = text capability.Clear
 first_piece profile EraseLine = text capability.El
@@ -60,6 +64,8 @@ first_piece profile (InsertLines n) = motion profile capability.Il1 capability.I
 first_piece profile (DeleteLines n) = motion profile capability.Dl1 capability.Dl n
 first_piece profile (InsertChars n) = text_of_one capability.Ich n
 first_piece profile (DeleteChars n) = motion profile capability.Dch1 capability.Dch n
+first_piece profile (ScrollUp n) = motion profile capability.Ind capability.Indn n
+first_piece profile (ScrollDown n) = motion profile capability.Ri capability.Rin n
 first_piece profile Reset = text capability.Sgr0
 first_piece profile ExitAttributes = text capability.Sgr0
 first_piece profile (Enter a) = text (entering a.0)
@@ -67,6 +73,7 @@ first_piece profile (Set a) = Text capability.Sgr (renditions_of a.0)
 first_piece profile (Fore n) = text_of_one capability.Setaf n
 first_piece profile (Back n) = text_of_one capability.Setab n
 first_piece profile (Put byte) = Character byte
+first_piece profile (Repeat byte n) = text_of_two capability.Rep byte n
 
 -- After these operations the colours are the default ones.
 abbrev pub resets_colours : Op → Bool
@@ -84,10 +91,15 @@ abbrev pub is_sendable : ProfileView → Piece → Bool
 is_sendable profile (Character byte) = true
 is_sendable profile (Text capability parameters) = is_there profile capability
 
--- The numbers by which the cursor can be moved, and of lines and characters that are erased, inserted or deleted: 1 to
--- 500.
+-- The numbers by which the cursor can be moved and lines scroll, and of lines and characters that are erased, inserted
+-- or deleted: 1 to 500.
 abbrev pub is_count : ℕ → Bool
 is_count n = nat_le 1 n && nat_le n 500
+
+-- How often a character can be repeated: 2 to 500 times. Texts that say how often it follows itself would say 0 for
+-- once, which many terminals take for 1.
+abbrev pub is_repetition : ℕ → Bool
+is_repetition n = nat_le 2 n && nat_le n 500
 
 -- The set has exactly one attribute.
 abbrev pub is_attribute : ℕ → Bool
@@ -106,16 +118,23 @@ is_within profile (Up n) = is_count n
 is_within profile (Down n) = is_count n
 is_within profile (Left n) = is_count n
 is_within profile (Right n) = is_count n
+is_within profile (UpBy n) = is_count n
+is_within profile (DownBy n) = is_count n
+is_within profile (LeftBy n) = is_count n
+is_within profile (RightBy n) = is_count n
 is_within profile (EraseChars n) = is_count n
 is_within profile (InsertLines n) = is_count n
 is_within profile (DeleteLines n) = is_count n
 is_within profile (InsertChars n) = is_count n
 is_within profile (DeleteChars n) = is_count n
+is_within profile (ScrollUp n) = is_count n
+is_within profile (ScrollDown n) = is_count n
 is_within profile (Enter a) = is_attribute a.0 && is_shown profile a.0
 is_within profile (Set a) = bit_and (shown_set profile) a.0 == a.0
 is_within profile (Fore n) = is_shown_colour profile n
 is_within profile (Back n) = is_shown_colour profile n
 is_within profile (Put byte) = is_character byte
+is_within profile (Repeat byte n) = is_character byte && is_repetition n
 is_within profile Home = true
 is_within profile Return = true
 is_within profile Clear = true

@@ -3,12 +3,13 @@ ghost use Rattle.std.specs.Prelude.{◌≡◌, ◌≢◌, ◌≤◌, ◌++◌, �
 ghost use Rattle.ti_caps.specs.Description.{text_at};
 ghost use Rattle.ti_param.specs.Parsed.{parsed};
 ghost use Rattle.ti_param.specs.Tree.{depth};
-ghost use Rattle.scr_term.specs.Operations.Admission.{IsAdmitted, IsBundledAdmitted, IsEcma48, IsJudged, IsRefused, IsSuitable, bad_text, first_where, is_bad_string, is_missing, is_over_bound, is_present, is_spoiled, margin_fault, missing_fault, named_text, planned_program, program_at, program_without_line_feed, screen_size, sent_at, sent_text, size_fault, spare_program, unsuitable_fault, within_limits};
+ghost use Rattle.scr_term.specs.Operations.Admission.{IsAdmitted, IsBundledAdmitted, IsEcma48, IsJudged, IsRefused, IsSuitable, bad_text, first_where, is_bad_string, is_missing, is_over_bound, is_present, margin_fault, missing_fault, named_text, planned_program, program_at, screen_size, sent_at, sent_text, size_fault, unsuitable_fault};
 ghost use Rattle.scr_term.specs.Operations.Capabilities.{slot_of};
 ghost use Rattle.scr_term.specs.Code.Admission.{Judges, program_in};
 
 use crate::operations::capability::Capability;
 use crate::operations::making::profile;
+use crate::operations::spares::with_spares;
 use crate::{Profile, ProfileFault};
 use scr_cells::{NoMemory, Size};
 use std::alloc::Global;
@@ -32,10 +33,10 @@ const UNSUITABLE: [(Kind, Slot); 9] = [
 const NEEDED: [Capability; 2] = [Capability::Cup, Capability::Clear];
 
 // The deepest stack that a program of a profile may need.
-const MOST_DEPTH: usize = 20;
+pub(crate) const MOST_DEPTH: usize = 20;
 
 // The most bytes that a program of a profile may give.
-const MOST_BYTES: usize = 1_024;
+pub(crate) const MOST_BYTES: usize = 1_024;
 
 impl Profile {
     /// The profile of a terminal by its entry, on a screen of `size`, or of the entry's `lines` and
@@ -55,10 +56,11 @@ impl Profile {
     /// 8. `NoMemory`: an allocation failed, whatever refusal would have followed. The first two are
     ///    checked before any allocation.
     ///
-    /// Nothing is refused for a text that inserts or deletes lines or characters. Such a text counts
-    /// as absent if it is not a parameter string, could need more than 20 values or give more than
-    /// 1,024 bytes, or contains a line feed; all that move lines do if `da` or `db` is present, `ich`
-    /// if `in` is, `dch` and `dch1` if `smdc` is and is not padding alone.
+    /// Nothing is refused for a text that inserts or deletes lines or characters, scrolls or repeats a
+    /// character. Such a text counts as absent if it is not a parameter string, could need more than
+    /// 20 values or give more than 1,024 bytes, or is not `ind` and contains a line feed; all that
+    /// move lines do if `da` or `db` is present, `ich` if `in` is, `dch` and `dch1` if `smdc` is and
+    /// is not padding alone.
     pub fn admit(alloc: Global, entry: &Entry, size: Option<Size>) -> Result<Profile, ProfileFault>
         ensures ok { IfOk result (IsAdmitted entry.now size) }
         ensures err { IfErr result (IsRefused entry.now size) }
@@ -171,7 +173,7 @@ fn first_missing(
 }
 
 // What the terminal is sent for a capability: its text without padding; `None` if that is empty.
-fn sent_text(
+pub(crate) fn sent_text(
     alloc: Global,
     entry: &Entry,
     capability: Capability,
@@ -239,7 +241,10 @@ fn programs(
 }
 
 // Appends a program.
-fn add(programs: &mut Vec<Option<Program>>, program: Option<Program>) -> Result<(), NoMemory>
+pub(crate) fn add(
+    programs: &mut Vec<Option<Program>>,
+    program: Option<Program>,
+) -> Result<(), NoMemory>
     ensures { OnOk result (programs.new.items ≡ programs.old.items ++ program ∷ []) }
 {
     programs.push(program)?;
@@ -284,87 +289,8 @@ pub fn program_at(alloc: Global, entry: &Entry, slot: Slot) -> Result<Option<Pro
     }
 }
 
-// The programs of these capabilities, after others.
-fn with_spares(
-    alloc: Global,
-    entry: &Entry,
-    programs: Vec<Option<Program>>,
-    capabilities: &[Capability],
-) -> Result<Vec<Option<Program>>, NoMemory>
-    ensures { IfOk result (λ all. all.items ≡ programs.items ++ map (spare_program entry.now) capabilities.now) }
-{
-    let mut all = programs;
-    for capability in capabilities {
-        let program = spare_program(alloc, entry, *capability)?;
-        add(&mut all, program)?;
-    }
-    Ok(all)
-}
-
-// The program of a spare capability; `None` if its text cannot be used.
-fn spare_program(
-    alloc: Global,
-    entry: &Entry,
-    capability: Capability,
-) -> Result<Option<Program>, NoMemory>
-    ensures { IfOk result (λ program. program ≡ spare_program entry.now capability) }
-{
-    if is_spoiled(alloc, entry, capability)? {
-        return Ok(None);
-    }
-    match sent_text(alloc, entry, capability)? {
-        Some(text) => program_without_line_feed(alloc, &text),
-        None => Ok(None),
-    }
-}
-
-// Whether the terminal moves lines or characters otherwise than operations do.
-fn is_spoiled(alloc: Global, entry: &Entry, capability: Capability) -> Result<bool, NoMemory>
-    ensures { IfOk result (λ spoiled. spoiled ≡ is_spoiled entry.now capability) }
-{
-    match capability {
-        Capability::Il1 | Capability::Il | Capability::Dl1 | Capability::Dl => {
-            Ok(entry.flag(slots::DA) || entry.flag(slots::DB))
-        }
-        Capability::Ich => Ok(entry.flag(slots::IN)),
-        Capability::Dch1 | Capability::Dch => has_text(alloc, entry, slots::SMDC),
-        _ => Ok(false),
-    }
-}
-
-// Whether something is sent for the text at a position.
-fn has_text(alloc: Global, entry: &Entry, slot: Slot) -> Result<bool, NoMemory>
-    ensures { IfOk result (λ there. there ≡ is_some (sent_at entry.now slot)) }
-{
-    let text = sent_at(alloc, entry, slot)?;
-    Ok(text.is_some())
-}
-
-// The program of a text; `None` if it is not a parameter string, exceeds the limits or contains a line
-// feed.
-fn program_without_line_feed(alloc: Global, text: &[u8]) -> Result<Option<Program>, NoMemory>
-    ensures { IfOk result (λ program. program ≡ program_without_line_feed text.now) }
-{
-    if text.contains(&b'\n') {
-        return Ok(None);
-    }
-    Ok(within_limits(parsed_program(alloc, text)?))
-}
-
-// The program, if it keeps to the limits.
-fn within_limits(program: Option<Program>) -> Option<Program>
-    ensures { result ≡ within_limits program }
-{
-    match program {
-        Some(program) if program.depth() <= MOST_DEPTH && program.bound() <= MOST_BYTES => {
-            Some(program)
-        }
-        _ => None,
-    }
-}
-
 // The program of a text; `None` if the text is not a parameter string.
-fn parsed_program(alloc: Global, text: &[u8]) -> Result<Option<Program>, NoMemory>
+pub(crate) fn parsed_program(alloc: Global, text: &[u8]) -> Result<Option<Program>, NoMemory>
     ensures { IfOk result (λ program. program ≡ parsed text.now) }
 {
     text_is_parsed();
@@ -379,7 +305,7 @@ fn parsed_program(alloc: Global, text: &[u8]) -> Result<Option<Program>, NoMemor
 
 // The first of these capabilities whose program could give too many bytes.
 fn first_long(programs: &[Option<Program>], capabilities: &[Capability]) -> Option<Capability>
-    requires { length programs.now ≡ 36 }
+    requires { length programs.now ≡ 41 }
     ensures { result ≡ first_where (λ c. is_over_bound (program_in programs.now c)) capabilities.now }
 {
     for capability in capabilities {

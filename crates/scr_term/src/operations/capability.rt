@@ -80,6 +80,16 @@ pub enum Capability {
     Dch1,
     /// `dch`.
     Dch,
+    /// `ind`.
+    Ind,
+    /// `ri`.
+    Ri,
+    /// `indn`.
+    Indn,
+    /// `rin`.
+    Rin,
+    /// `rep`.
+    Rep,
 }
 
 impl Capability {
@@ -116,9 +126,9 @@ impl Capability {
         Capability::Setab,
     ];
 
-    /// Those that insert and delete lines and characters. A terminal can do without each of them, so
-    /// an entry is admitted whatever their texts are.
-    pub const SPARE: [Capability; 7] = [
+    /// Those that insert and delete lines and characters, that scroll, and that repeat a character. A
+    /// terminal can do without each of them, so an entry is admitted whatever their texts are.
+    pub const SPARE: [Capability; 12] = [
         Capability::Il1,
         Capability::Il,
         Capability::Dl1,
@@ -126,6 +136,11 @@ impl Capability {
         Capability::Ich,
         Capability::Dch1,
         Capability::Dch,
+        Capability::Ind,
+        Capability::Ri,
+        Capability::Indn,
+        Capability::Rin,
+        Capability::Rep,
     ];
 
     /// Its index in `EACH`, or after these in `SPARE`.
@@ -176,6 +191,11 @@ impl Capability {
             Capability::Ich => slots::ICH,
             Capability::Dch1 => slots::DCH1,
             Capability::Dch => slots::DCH,
+            Capability::Ind => slots::IND,
+            Capability::Ri => slots::RI,
+            Capability::Indn => slots::INDN,
+            Capability::Rin => slots::RIN,
+            Capability::Rep => slots::REP,
         }
     }
 }

@@ -34,6 +34,27 @@ pub(crate) const CHARS_DELETED: [Op; 4] = [
     Op::DeleteChars(100),
 ];
 
+pub(crate) const SCROLLS_UP: [Op; 4] = [
+    Op::ScrollUp(1),
+    Op::ScrollUp(2),
+    Op::ScrollUp(10),
+    Op::ScrollUp(100),
+];
+
+pub(crate) const SCROLLS_DOWN: [Op; 4] = [
+    Op::ScrollDown(1),
+    Op::ScrollDown(2),
+    Op::ScrollDown(10),
+    Op::ScrollDown(100),
+];
+
+// Texts that send one fewer than the count have as many digits for these.
+pub(crate) const REPEATS: [Op; 3] = [
+    Op::Repeat(b'-', 2),
+    Op::Repeat(b'-', 11),
+    Op::Repeat(b'-', 101),
+];
+
 pub(crate) const COLUMNS: [Op; 3] = [Op::Column(0), Op::Column(9), Op::Column(99)];
 
 pub(crate) const LINES: [Op; 3] = [Op::Line(0), Op::Line(9), Op::Line(99)];

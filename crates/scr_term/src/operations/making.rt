@@ -54,7 +54,7 @@ fn has_palette(entry: &Entry) -> bool
 
 // Whether there is a program for a capability.
 fn is_there(programs: &[Option<Program>], capability: Capability) -> bool
-    requires { length programs.now ≡ 36 }
+    requires { length programs.now ≡ 41 }
     ensures { result ≡ is_some (program_in programs.now capability) }
 {
     programs[capability.ordinal()].is_some()
@@ -63,7 +63,7 @@ fn is_there(programs: &[Option<Program>], capability: Capability) -> bool
 // Those of these attributes that the terminal can turn on, if it can turn all off. Goes from the
 // last to the first, as `set_of` does.
 fn shown_set(programs: &[Option<Program>], attributes: &[Attrs]) -> Attrs
-    requires { length programs.now ≡ 36 }
+    requires { length programs.now ≡ 41 }
     ensures { result.0 ≡ set_of (filter (is_shown (with_programs false programs.now)) (map (λ a. a.0) attributes.now)) }
 {
     let mut shown = Attrs::empty();
@@ -79,7 +79,7 @@ fn shown_set(programs: &[Option<Program>], attributes: &[Attrs]) -> Attrs
 
 // Whether an attribute can be turned on, and all can be turned off.
 fn is_shown(programs: &[Option<Program>], attribute: Attrs) -> bool
-    requires { length programs.now ≡ 36 }
+    requires { length programs.now ≡ 41 }
     ensures { result ≡ is_shown (with_programs false programs.now) attribute.0 }
 {
     is_there(programs, Capability::Sgr0) && is_there(programs, entering(attribute))
@@ -88,7 +88,7 @@ fn is_shown(programs: &[Option<Program>], attribute: Attrs) -> bool
 // Whether colours are shown; `palette` says whether the entry promises them.
 #[tactic(auto, unfolding(crate::specs::Operations::Profiles::has_colours))]
 fn has_colours(palette: bool, programs: &[Option<Program>]) -> bool
-    requires { length programs.now ≡ 36 }
+    requires { length programs.now ≡ 41 }
     ensures { result ≡ has_colours (with_programs palette programs.now) }
 {
     palette
@@ -100,7 +100,7 @@ fn has_colours(palette: bool, programs: &[Option<Program>]) -> bool
 
 // A bound on the bytes of any operation. If there are colours, `op` may follow another text.
 fn longest(programs: &[Option<Program>], colours: bool) -> usize
-    requires whole { length programs.now ≡ 36 }
+    requires whole { length programs.now ≡ 41 }
     requires planned { ArePlanned programs.now }
     ensures { result ≡ longest colours programs.now }
 {
@@ -114,7 +114,7 @@ fn longest(programs: &[Option<Program>], colours: bool) -> usize
 
 // The most bytes that the program of a capability can give.
 fn bound_of(programs: &[Option<Program>], capability: Capability) -> usize
-    requires { length programs.now ≡ 36 }
+    requires { length programs.now ≡ 41 }
     ensures { result ≡ counted_bound (program_in programs.now capability) }
 {
     counted_bound(&programs[capability.ordinal()])

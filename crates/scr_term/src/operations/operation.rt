@@ -26,6 +26,14 @@ pub enum Op {
     Left(u32),
     /// `cuf1` or `cuf`: moves the cursor right by 1 to 500 columns.
     Right(u32),
+    /// `cuu`, also for one row: moves the cursor up by 1 to 500 rows.
+    UpBy(u32),
+    /// `cud`, also for one row: moves the cursor down by 1 to 500 rows.
+    DownBy(u32),
+    /// `cub`, also for one column: moves the cursor left by 1 to 500 columns.
+    LeftBy(u32),
+    /// `cuf`, also for one column: moves the cursor right by 1 to 500 columns.
+    RightBy(u32),
     /// `cr`: moves the cursor to the first column of the same row.
     Return,
     /// `clear`: makes the screen blank and moves the cursor to row 0, column 0.
@@ -47,6 +55,12 @@ pub enum Op {
     /// `dch1` or `dch`: deletes 1 to 500 characters of the row, from the cursor on. As many places
     /// at the end of the row become blank.
     DeleteChars(u32),
+    /// `ind` or `indn`, sent in the first column of the last row: moves all rows up by 1 to 500. As
+    /// many rows at the top are lost, and as many at the bottom become blank.
+    ScrollUp(u32),
+    /// `ri` or `rin`, sent in the first column of the first row: moves all rows down by 1 to 500. As
+    /// many rows at the bottom are lost, and as many at the top become blank.
+    ScrollDown(u32),
     /// `sgr0`, then `op` if colours are shown: turns all attributes off and makes the colours
     /// default.
     Reset,
@@ -64,16 +78,19 @@ pub enum Op {
     Back(u8),
     /// Writes a character, 32 to 126, with the attributes that are on and the current colours.
     Put(u8),
+    /// `rep`: writes a character, 32 to 126, 2 to 500 times as `Put` does, short of the last column.
+    Repeat(u8, u32),
 }
 
 /// Writes an operation as its name with its numbers, attributes or character: `Home`, `Move(4, 9)`,
-/// `Set(underline bold)`, `Put(q)`.
+/// `Set(underline bold)`, `Put(q)`, `Repeat(-, 9)`.
 impl fmt::Display for Op {
     fn fmt<W: fmt::Write>(&self, f: &mut fmt::Formatter<W>) -> fmt::Result {
         match self {
             Op::Enter(attrs) => write!(f, "Enter({attrs})"),
             Op::Set(attrs) => write!(f, "Set({attrs})"),
             Op::Put(byte) => write!(f, "Put({})", char::from(*byte)),
+            Op::Repeat(byte, count) => write!(f, "Repeat({}, {count})", char::from(*byte)),
             _ => write!(f, "{self:?}"),
         }
     }

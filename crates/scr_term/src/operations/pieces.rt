@@ -39,6 +39,10 @@ impl Profile {
             Op::Down(count) => self.motion(Capability::Cud1, Capability::Cud, count),
             Op::Left(count) => self.motion(Capability::Cub1, Capability::Cub, count),
             Op::Right(count) => self.motion(Capability::Cuf1, Capability::Cuf, count),
+            Op::UpBy(count) => text_of_one(Capability::Cuu, count),
+            Op::DownBy(count) => text_of_one(Capability::Cud, count),
+            Op::LeftBy(count) => text_of_one(Capability::Cub, count),
+            Op::RightBy(count) => text_of_one(Capability::Cuf, count),
             Op::Return => text(Capability::Cr),
             Op::Clear => text(Capability::Clear),
             Op::EraseLine => text(Capability::El),
@@ -48,6 +52,8 @@ impl Profile {
             Op::DeleteLines(count) => self.motion(Capability::Dl1, Capability::Dl, count),
             Op::InsertChars(count) => text_of_one(Capability::Ich, count),
             Op::DeleteChars(count) => self.motion(Capability::Dch1, Capability::Dch, count),
+            Op::ScrollUp(count) => self.motion(Capability::Ind, Capability::Indn, count),
+            Op::ScrollDown(count) => self.motion(Capability::Ri, Capability::Rin, count),
             Op::Reset => text(Capability::Sgr0),
             Op::ExitAttributes => text(Capability::Sgr0),
             Op::Enter(attribute) => text(entering(attribute)),
@@ -55,6 +61,7 @@ impl Profile {
             Op::Fore(colour) => text_of_one(Capability::Setaf, u32::from(colour)),
             Op::Back(colour) => text_of_one(Capability::Setab, u32::from(colour)),
             Op::Put(byte) => SentPiece::Byte(byte),
+            Op::Repeat(byte, count) => text_of_two(Capability::Rep, u32::from(byte), count),
         }
     }
 

@@ -5,7 +5,8 @@ ghost use Rattle.std.specs.Prelude.{◌≡◌, ◌<◌, IfSome};
 use crate::operations::capability::Capability;
 use crate::operations::ladders::{
     ADDRESSED_COLUMNS, ADDRESSED_ROWS, ByDigits, CHARS_DELETED, CHARS_INSERTED, COLUMNS, Counted,
-    DOWNS, ERASURES, LEFTS, LINES, LINES_DELETED, LINES_INSERTED, RIGHTS, UPS,
+    DOWNS, ERASURES, LEFTS, LINES, LINES_DELETED, LINES_INSERTED, REPEATS, RIGHTS, SCROLLS_DOWN,
+    SCROLLS_UP, UPS,
 };
 use crate::{Op, Profile};
 use bitflags::Flags;
@@ -32,6 +33,9 @@ pub struct Prices {
     delete_lines: Counted,
     insert_chars: ByDigits,
     delete_chars: Counted,
+    scroll_up: Counted,
+    scroll_down: Counted,
+    repeat: ByDigits,
     column: ByDigits,
     line: ByDigits,
     up: Counted,
@@ -69,6 +73,10 @@ impl Prices {
             Op::Down(count) => self.down.by(count),
             Op::Left(count) => self.left.by(count),
             Op::Right(count) => self.right.by(count),
+            Op::UpBy(count) => self.up.more.with(count),
+            Op::DownBy(count) => self.down.more.with(count),
+            Op::LeftBy(count) => self.left.more.with(count),
+            Op::RightBy(count) => self.right.more.with(count),
             Op::Return => self.carriage_return,
             Op::Clear => self.clear,
             Op::EraseLine => self.erase_line,
@@ -78,6 +86,8 @@ impl Prices {
             Op::DeleteLines(count) => self.delete_lines.by(count),
             Op::InsertChars(count) => self.insert_chars.with(count),
             Op::DeleteChars(count) => self.delete_chars.by(count),
+            Op::ScrollUp(count) => self.scroll_up.by(count),
+            Op::ScrollDown(count) => self.scroll_down.by(count),
             Op::Reset => self.reset,
             Op::ExitAttributes => self.exit_attributes,
             Op::Enter(attribute) => self.enters(attribute),
@@ -85,6 +95,7 @@ impl Prices {
             Op::Fore(_) => self.fore,
             Op::Back(_) => self.back,
             Op::Put(_) => 1,
+            Op::Repeat(_, count) => self.repeat.with(count),
         }
     }
 
@@ -126,6 +137,9 @@ impl Prices {
             delete_lines: count,
             insert_chars: number,
             delete_chars: count,
+            scroll_up: count,
+            scroll_down: count,
+            repeat: number,
             column: number,
             line: number,
             up: count,
@@ -218,6 +232,9 @@ impl Profile {
             delete_lines: self.counted(LINES_DELETED),
             insert_chars: self.ladder(CHARS_INSERTED),
             delete_chars: self.counted(CHARS_DELETED),
+            scroll_up: self.counted(SCROLLS_UP),
+            scroll_down: self.counted(SCROLLS_DOWN),
+            repeat: self.ladder(REPEATS),
             column: self.prices_of(entry, Capability::Hpa, COLUMNS),
             line: self.prices_of(entry, Capability::Vpa, LINES),
             up: self.motion_prices(entry, Capability::Cuu1, Capability::Cuu, UPS),
@@ -237,8 +254,8 @@ impl Profile {
         }
     }
 
-    // The price of turning attributes off alone. It is there only where lines or characters can be
-    // moved: what other terminals are sent does not change.
+    // The price of turning attributes off alone. It is there only where the terminal has a spare text:
+    // what other terminals are sent does not change.
     fn price_of_exit(&self) -> u32 {
         for spare in Capability::SPARE {
             if self.is_there(spare) {

@@ -6,7 +6,7 @@ ghost use Rattle.scr_term.specs.declared.operations.capability.Capability.TheVar
 ghost use Rattle.scr_term.specs.declared.operations.operation.Op.{Op};
 ghost use Rattle.scr_term.specs.Operations.Profiles.{IsProfile, has_colours, is_shown, is_there, shown_set};
 ghost use Rattle.scr_term.specs.Code.SentPieces.{piece_of};
-ghost use Rattle.scr_term.specs.Operations.Texts.{bytes_of, has, is_attribute, is_count, is_sendable, is_within};
+ghost use Rattle.scr_term.specs.Operations.Texts.{bytes_of, has, is_attribute, is_count, is_repetition, is_sendable, is_within};
 
 use crate::Op;
 use crate::operations::capability::Capability;
@@ -83,8 +83,8 @@ impl Profile {
     }
 
     /// Whether the terminal has an operation: the entry has its text, its place is on the screen,
-    /// its count is 1 to 500, its attributes and colours are shown (for `Enter`, a single
-    /// attribute), its byte is 32 to 126.
+    /// its count is 1 to 500 (for `Repeat`, at least 2), its attributes and colours are shown (for
+    /// `Enter`, a single attribute), its byte is 32 to 126.
     #[tactic(auto, unfolding(crate::specs::Operations::Texts::has))]
     pub fn has(&self, op: Op) -> bool
         ensures { result ≡ has self.now op }
@@ -128,15 +128,22 @@ impl Profile {
             | Op::Down(count)
             | Op::Left(count)
             | Op::Right(count)
+            | Op::UpBy(count)
+            | Op::DownBy(count)
+            | Op::LeftBy(count)
+            | Op::RightBy(count)
             | Op::EraseChars(count)
             | Op::InsertLines(count)
             | Op::DeleteLines(count)
             | Op::InsertChars(count)
-            | Op::DeleteChars(count) => is_count(count),
+            | Op::DeleteChars(count)
+            | Op::ScrollUp(count)
+            | Op::ScrollDown(count) => is_count(count),
             Op::Enter(attribute) => is_attribute(attribute) && self.is_shown(attribute),
             Op::Set(attributes) => self.shown.contains(attributes),
             Op::Fore(colour) | Op::Back(colour) => colour < 8 && self.colours,
             Op::Put(byte) => is_character(byte),
+            Op::Repeat(byte, count) => is_character(byte) && is_repetition(count),
             Op::Home
             | Op::Return
             | Op::Clear
@@ -172,6 +179,13 @@ fn is_count(count: u32) -> bool
     ensures { result ≡ is_count count }
 {
     (1..=500).contains(&count)
+}
+
+// Whether a character can be repeated this often.
+fn is_repetition(count: u32) -> bool
+    ensures { result ≡ is_repetition count }
+{
+    (2..=500).contains(&count)
 }
 
 // Whether the set has exactly one attribute.

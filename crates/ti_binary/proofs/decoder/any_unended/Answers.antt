@@ -1,13 +1,9 @@
-use Rattle.std.proofs.Common.{◌||◌, ◌*◌, sym, ◌∙◌, ap}
+use Rattle.std.proofs.Common.{◌&&◌, not, ◌∙◌}
 use Rattle.std.specs.List.{list_any}
-use Rattle.ti_binary.specs.Files.{is_unended, word_at, words_in}
-use Rattle.ti_binary.proofs.WordLaws.{any_more}
+use Rattle.ti_binary.specs.Files.{is_negative, words_in}
 use Rattle.ti_binary.proofs.decoder.any_unended.Goals as goal
 
-pub loop-i-preserved : goal.loop-i-preserved
-loop-i-preserved c =
-    let p = is_unended c.args.table.now in
-    ap (λ b. b || c.is_unended-found.result) c.loop-i.invariant
-    ∙ ap (λ b. list_any p (words_in c.args.offsets.now c.loop-i.i) || b)
-    (c.is_unended-found.ensures ∙ ap p (c.word.ensures ∙ ap (λ n. word_at c.args.offsets.now (2 * n)) c.from.ensures))
-    ∙ sym (any_more p (λ i. word_at c.args.offsets.now (2 * i)) c.loop-i.i)
+pub returns : goal.returns
+returns c =
+    let words = words_in c.args.offsets.now c.args.count in
+    c.any_outside.ensures ∙ (λ i. list_any (λ offset. not (is_negative offset) && not (c.through_last_nul.ensures offset i)) words)

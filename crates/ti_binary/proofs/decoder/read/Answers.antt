@@ -49,10 +49,10 @@ returns-clause-ok c =
             ∙ (λ i. padded 64 None (map (number_said width) (numbers_in width (cut.numbers i) (cut.number_count.0 i))));
         inside =
             (λ i. list_any (is_outside (sym cut.table i)) (words_in (sym cut.offsets i) (sym cut.offset_count.0 i)))
-            ∙ sym c.any_outside.ensures ∙ c.if-any_outside.false;
+            ∙ c.in_ok-check_offsets.ensures.inside;
         texts_end =
             (λ i. list_any (is_unended (sym cut.table i)) (words_in (sym cut.offsets i) (sym cut.offset_count.0 i)))
-            ∙ sym c.any_unended.ensures ∙ c.if-any_unended.false;
+            ∙ c.in_ok-check_offsets.ensures.ended;
         texts_say =
             ap (λ (e : Description). e.texts) last
             ∙ (λ i. padded 512 None (map (text_said (cut.table i)) (words_in (cut.offsets i) (cut.offset_count.0 i))));

@@ -1,7 +1,7 @@
 use Rattle.std.proofs.Common.{rules}
 use Rattle.scr_term.specs.declared.operations.capability.Capability.TheVariants.{Cr}
 use Rattle.scr_term.proofs.AdmissionLaws.{spares_more}
-use Rattle.scr_term.proofs.operations.admission.with_spares.Goals as goal
+use Rattle.scr_term.proofs.operations.spares.with_spares.Goals as goal
 
 pub loop-capability-preserved : goal.loop-capability-preserved
 loop-capability-preserved c =

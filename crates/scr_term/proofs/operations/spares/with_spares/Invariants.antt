@@ -1,6 +1,6 @@
 use Rattle.std.proofs.Common.{◌≡◌, ◌++◌, map, take}
 use Rattle.scr_term.specs.Operations.Admission.{spare_program}
-use Rattle.scr_term.proofs.operations.admission.with_spares.Given as goal
+use Rattle.scr_term.proofs.operations.spares.with_spares.Given as goal
 
 -- behind the first programs there are these so far
 abbrev pub invariant-loop-capability : goal.invariant-loop-capability
