@@ -1,15 +1,15 @@
 -- What an operation makes of the spot, of the pen and of the grid, where it is defined.
-use Rattle.std.proofs.Common.{◌≡◌, ℕ, ◌+◌, ◌-◌, ◌<◌, ◌==◌, ◌&&◌, ◌||◌, leb, ltb, nat_le, nat_lt, Bool, true, false, refl, sym, ◌∙◌, ap, subst, arith, List, [], get_or, length, slice_set, Option, Some, None, map, if◌then◌else◌}
+use Rattle.std.proofs.Common.{◌≡◌, ℕ, ◌+◌, ◌-◌, ◌<◌, ◌==◌, ◌&&◌, ◌||◌, leb, ltb, nat_le, nat_lt, Bool, true, false, refl, sym, ◌∙◌, ap, subst, arith, List, [], get_or, length, replicate, slice_set, Option, Some, None, map, if◌then◌else◌}
 use Rattle.std.specs.List.{range_with_len}
 use Rattle.std.proofs.lemmas.Bool.Decides.{nat_tests}
 use Rattle.std.proofs.lemmas.List.{get_or-set_other}
 use Rattle.std.proofs.lemmas.List.FromFn.{get_or-map-range_with_len}
 use Rattle.std.proofs.lemmas.Grind.{get_or-set_at}
-use Rattle.scr_cells.specs.Grids.{IsGrid, grid_at, grid_filled, grid_of, grid_row, grid_with, is_in_run, places_left, places_right, rows_down, rows_up}
+use Rattle.scr_cells.specs.Grids.{IsGrid, grid_at, grid_filled, grid_of, grid_row, grid_with, grid_with_run, is_in_run, line_with_run, places_left, places_right, rows_down, rows_up}
 use Rattle.scr_cells.specs.LookViews.{LookView, blank, blank_grid}
 use Rattle.scr_cells.specs.PenViews.{PenView, is_plain_pen, plain_pen, with_attribute}
 use Rattle.scr_term.specs.declared.operations.operation.Op.{Op}
-use Rattle.scr_term.specs.declared.operations.operation.Op.TheVariants.{Home, Move, Column, Line, Up, Down, Left, Right, Return, Clear, EraseLine, EraseBelow, EraseChars, InsertLines, DeleteLines, InsertChars, DeleteChars, Reset, ExitAttributes, Enter, Set, Fore, Back, Put}
+use Rattle.scr_term.specs.declared.operations.operation.Op.TheVariants.{Home, Move, Column, Line, Up, Down, Left, Right, UpBy, DownBy, LeftBy, RightBy, Return, Clear, EraseLine, EraseBelow, EraseChars, InsertLines, DeleteLines, InsertChars, DeleteChars, ScrollUp, ScrollDown, Reset, ExitAttributes, Enter, Set, Fore, Back, Put, Repeat}
 use Rattle.scr_term.specs.declared.operations.operation.Spot.{Spot}
 use Rattle.scr_term.specs.declared.operations.operation.Spot.TheVariants.{At, Margin}
 use Rattle.scr_term.specs.Operations.Profiles.{ProfileView}
@@ -33,8 +33,13 @@ spot_by columns (Up n) (At r c) = At (r - n) c
 spot_by columns (Down n) (At r c) = At (r + n) c
 spot_by columns (Left n) (At r c) = At r (c - n)
 spot_by columns (Right n) (At r c) = At r (c + n)
+spot_by columns (UpBy n) (At r c) = At (r - n) c
+spot_by columns (DownBy n) (At r c) = At (r + n) c
+spot_by columns (LeftBy n) (At r c) = At r (c - n)
+spot_by columns (RightBy n) (At r c) = At r (c + n)
 spot_by columns Return (At r c) = At r 0
 spot_by columns (Put byte) (At r c) = spot_after columns r c
+spot_by columns (Repeat byte n) (At r c) = At r (c + n)
 spot_by columns op spot = spot
 
 -- what is written with then
@@ -61,6 +66,9 @@ grid_by profile (InsertLines n) (At r c) pen grid = grid_of profile.rows profile
 grid_by profile (DeleteLines n) (At r c) pen grid = grid_of profile.rows profile.columns (rows_up r profile.rows n blank (grid_at blank grid))
 grid_by profile (InsertChars n) (At r c) pen grid = grid_of profile.rows profile.columns (places_right r c profile.columns n blank (grid_at blank grid))
 grid_by profile (DeleteChars n) (At r c) pen grid = grid_of profile.rows profile.columns (places_left r c profile.columns n blank (grid_at blank grid))
+grid_by profile (ScrollUp n) (At r c) pen grid = grid_of profile.rows profile.columns (rows_up 0 profile.rows n blank (grid_at blank grid))
+grid_by profile (ScrollDown n) (At r c) pen grid = grid_of profile.rows profile.columns (rows_down 0 profile.rows n blank (grid_at blank grid))
+grid_by profile (Repeat byte n) (At r c) pen grid = grid_with_run grid r c (replicate n (record { byte = byte; pen = pen }))
 grid_by profile (Put byte) (At r c) pen grid = grid_with grid r c (record { byte = byte; pen = pen })
 grid_by profile op spot pen grid = grid
 
@@ -113,6 +121,18 @@ acts profile (Left n) grid (At r c) pen new e =
 acts profile (Left n) grid (Margin r) pen new e = nothing _ new e
 acts profile (Right n) grid (At r c) pen new e = led profile (Right n) grid (At r c) pen new (whole grid (At r (c + n)) pen) refl refl refl (when _ _ new (when _ _ new e))
 acts profile (Right n) grid (Margin r) pen new e = nothing _ new e
+acts profile (UpBy n) grid (At r c) pen new e =
+    led profile (UpBy n) grid (At r c) pen new (whole grid (At (r - n) c) pen) refl refl refl
+    (when_all (profile.msgr || is_plain_pen pen) (nat_le n r) (nat_lt (r - n) profile.rows && nat_lt c profile.columns) (whole grid (At (r - n) c) pen) new e)
+acts profile (UpBy n) grid (Margin r) pen new e = nothing _ new e
+acts profile (DownBy n) grid (At r c) pen new e = led profile (DownBy n) grid (At r c) pen new (whole grid (At (r + n) c) pen) refl refl refl (when _ _ new (when _ _ new e))
+acts profile (DownBy n) grid (Margin r) pen new e = nothing _ new e
+acts profile (LeftBy n) grid (At r c) pen new e =
+    led profile (LeftBy n) grid (At r c) pen new (whole grid (At r (c - n)) pen) refl refl refl
+    (when_all (profile.msgr || is_plain_pen pen) (nat_le n c) (nat_lt r profile.rows && nat_lt (c - n) profile.columns) (whole grid (At r (c - n)) pen) new e)
+acts profile (LeftBy n) grid (Margin r) pen new e = nothing _ new e
+acts profile (RightBy n) grid (At r c) pen new e = led profile (RightBy n) grid (At r c) pen new (whole grid (At r (c + n)) pen) refl refl refl (when _ _ new (when _ _ new e))
+acts profile (RightBy n) grid (Margin r) pen new e = nothing _ new e
 acts profile Return grid (At r c) pen new e = led profile Return grid (At r c) pen new (whole grid (At r 0) pen) refl refl refl (when _ _ new (when _ _ new e))
 acts profile Return grid (Margin r) pen new e = nothing _ new e
 acts profile Clear grid spot pen new e = led profile Clear grid spot pen new (whole (blank_grid profile.rows profile.columns) (At 0 0) pen) refl refl refl (when _ _ new e)
@@ -137,6 +157,12 @@ acts profile (InsertChars k) grid (Margin r) pen new e = nothing _ new e
 acts profile (DeleteChars k) grid (At r c) pen new e =
     led profile (DeleteChars k) grid (At r c) pen new (whole (grid_of profile.rows profile.columns (places_left r c profile.columns k blank (grid_at blank grid))) (At r c) pen) refl refl refl (when _ _ new (when _ _ new e))
 acts profile (DeleteChars k) grid (Margin r) pen new e = nothing _ new e
+acts profile (ScrollUp k) grid (At r c) pen new e =
+    led profile (ScrollUp k) grid (At r c) pen new (whole (grid_of profile.rows profile.columns (rows_up 0 profile.rows k blank (grid_at blank grid))) (At r c) pen) refl refl refl (when _ _ new (when _ _ new e))
+acts profile (ScrollUp k) grid (Margin r) pen new e = nothing _ new e
+acts profile (ScrollDown k) grid (At r c) pen new e =
+    led profile (ScrollDown k) grid (At r c) pen new (whole (grid_of profile.rows profile.columns (rows_down 0 profile.rows k blank (grid_at blank grid))) (At r c) pen) refl refl refl (when _ _ new (when _ _ new e))
+acts profile (ScrollDown k) grid (Margin r) pen new e = nothing _ new e
 acts profile Reset grid spot pen new e = led profile Reset grid spot pen new (whole grid spot plain_pen) refl refl refl e
 acts profile ExitAttributes grid spot pen new e = led profile ExitAttributes grid spot pen new (whole grid spot plain_pen) refl refl refl (when _ _ new e)
 acts profile (Enter a) grid spot pen new e = led profile (Enter a) grid spot pen new (whole grid spot (with_attribute pen a.0)) refl refl refl e
@@ -148,6 +174,9 @@ acts profile (Back k) grid (Margin r) pen new e = (cc)
 acts profile (Put byte) grid (At r c) pen new e =
     led profile (Put byte) grid (At r c) pen new (whole (grid_with grid r c (record { byte = byte; pen = pen })) (spot_after profile.columns r c) pen) refl refl refl e
 acts profile (Put byte) grid (Margin r) pen new e = (cc)
+acts profile (Repeat byte n) grid (At r c) pen new e =
+    led profile (Repeat byte n) grid (At r c) pen new (whole (grid_with_run grid r c (replicate n (record { byte = byte; pen = pen }))) (At r (c + n)) pen) refl refl refl (when _ _ new e)
+acts profile (Repeat byte n) grid (Margin r) pen new e = (cc)
 
 -- ---- rows that were the same are the same then
 
@@ -179,15 +208,16 @@ left_same profile row column n a b r high same =
 true_is_not_false : true ≡ false → ⊥
 true_is_not_false e = (cc)
 
-written_same : (a b : List (List LookView)) (row column : ℕ) (look : LookView) (r : ℕ) → r < length a → r < length b → grid_row a r ≡ grid_row b r → (here : Bool) → (r == row) ≡ here
-    → grid_row (grid_with a row column look) r ≡ grid_row (grid_with b row column look) r
-written_same a b row column look r first second same true e =
+-- one row that is changed
+changed_same : (f : List LookView → List LookView) (a b : List (List LookView)) (row r : ℕ) → r < length a → r < length b → grid_row a r ≡ grid_row b r → (here : Bool) → (r == row) ≡ here
+    → grid_row (slice_set a row (f (grid_row a row))) r ≡ grid_row (slice_set b row (f (grid_row b row))) r
+changed_same f a b row r first second same true e =
     let at : r ≡ row = grind (arith, nat_tests) in
     let rows : grid_row a row ≡ grid_row b row = ap (grid_row a) (sym at) ∙ same ∙ ap (grid_row b) at in
     get_or-set_at a row r _ [] at (omega (arith, first, at))
-    ∙ ap (λ line. slice_set line column look) rows
+    ∙ ap f rows
     ∙ sym (get_or-set_at b row r _ [] at (omega (arith, second, at)))
-written_same a b row column look r first second same false e =
+changed_same f a b row r first second same false e =
     get_or-set_other a row r _ [] other ∙ same ∙ sym (get_or-set_other b row r _ [] other)
   where
     other : r ≡ row → ⊥
@@ -207,13 +237,18 @@ rows_same profile (EraseChars n) (At row column) pen a b first second r high sti
 rows_same profile (EraseChars n) (Margin row) pen a b first second r high still same = same
 rows_same profile (InsertLines n) spot pen a b first second r high still same = absurd (true_is_not_false still)
 rows_same profile (DeleteLines n) spot pen a b first second r high still same = absurd (true_is_not_false still)
+rows_same profile (ScrollUp n) spot pen a b first second r high still same = absurd (true_is_not_false still)
+rows_same profile (ScrollDown n) spot pen a b first second r high still same = absurd (true_is_not_false still)
 rows_same profile (InsertChars n) (At row column) pen a b first second r high still same = right_same profile row column n a b r high same
 rows_same profile (InsertChars n) (Margin row) pen a b first second r high still same = same
 rows_same profile (DeleteChars n) (At row column) pen a b first second r high still same = left_same profile row column n a b r high same
 rows_same profile (DeleteChars n) (Margin row) pen a b first second r high still same = same
 rows_same profile (Put byte) (At row column) pen a b first second r high still same =
-    written_same a b row column (record { byte = byte; pen = pen }) r (omega (arith, high, first.high)) (omega (arith, high, second.high)) same (r == row) refl
+    changed_same (λ line. slice_set line column (record { byte = byte; pen = pen })) a b row r (omega (arith, high, first.high)) (omega (arith, high, second.high)) same (r == row) refl
 rows_same profile (Put byte) (Margin row) pen a b first second r high still same = same
+rows_same profile (Repeat byte n) (At row column) pen a b first second r high still same =
+    changed_same (λ line. line_with_run line column (replicate n (record { byte = byte; pen = pen }))) a b row r (omega (arith, high, first.high)) (omega (arith, high, second.high)) same (r == row) refl
+rows_same profile (Repeat byte n) (Margin row) pen a b first second r high still same = same
 rows_same profile Home spot pen a b first second r high still same = same
 rows_same profile (Move row column) spot pen a b first second r high still same = same
 rows_same profile (Column column) spot pen a b first second r high still same = same
@@ -222,6 +257,10 @@ rows_same profile (Up n) spot pen a b first second r high still same = same
 rows_same profile (Down n) spot pen a b first second r high still same = same
 rows_same profile (Left n) spot pen a b first second r high still same = same
 rows_same profile (Right n) spot pen a b first second r high still same = same
+rows_same profile (UpBy n) spot pen a b first second r high still same = same
+rows_same profile (DownBy n) spot pen a b first second r high still same = same
+rows_same profile (LeftBy n) spot pen a b first second r high still same = same
+rows_same profile (RightBy n) spot pen a b first second r high still same = same
 rows_same profile Return spot pen a b first second r high still same = same
 rows_same profile Reset spot pen a b first second r high still same = same
 rows_same profile ExitAttributes spot pen a b first second r high still same = same

@@ -9,7 +9,7 @@ use Rattle.scr_cells.specs.Grids.{GridLaws, IsGrid, grid_at, grid_of, grid_row, 
 use Rattle.scr_cells.specs.LookViews.{LookView, blank}
 use Rattle.scr_cells.specs.PenViews.{PenView, plain_pen}
 use Rattle.scr_term.specs.declared.operations.operation.Op.{Op}
-use Rattle.scr_term.specs.declared.operations.operation.Op.TheVariants.{Home, Move, Clear, EraseLine, EraseBelow, EraseChars, InsertLines, DeleteLines, InsertChars, DeleteChars, Reset, Set, Put}
+use Rattle.scr_term.specs.declared.operations.operation.Op.TheVariants.{Home, Move, Clear, EraseLine, EraseBelow, EraseChars, InsertLines, DeleteLines, InsertChars, DeleteChars, ScrollUp, ScrollDown, Reset, Set, Put, Repeat}
 use Rattle.scr_term.specs.declared.operations.operation.Spot.{Spot}
 use Rattle.scr_term.specs.declared.operations.operation.Spot.TheVariants.{At, Margin}
 use Rattle.scr_term.specs.Operations.Abilities.{Abilities, full_abilities}
@@ -177,7 +177,10 @@ kept_same profile (InsertChars n) s p a e f g = (cc)
 kept_same profile (DeleteChars n) s p a e f g = (cc)
 kept_same profile (InsertLines n) s p a e f g = (cc)
 kept_same profile (DeleteLines n) s p a e f g = (cc)
+kept_same profile (ScrollUp n) s p a e f g = (cc)
+kept_same profile (ScrollDown n) s p a e f g = (cc)
 kept_same profile (Put byte) s p a e f g = (cc)
+kept_same profile (Repeat byte n) s p a e f g = (cc)
 kept_same profile op s p a e f g = refl
 
 -- a terminal that shows nothing else has a plain pen

@@ -7,7 +7,7 @@ use Rattle.scr_cells.specs.LookViews.{LookView}
 use Rattle.scr_cells.specs.PenViews.{PenView, plain_pen}
 use Rattle.scr_cells.specs.PictureViews.{IsSize}
 use Rattle.scr_term.specs.declared.operations.operation.Op.{Op}
-use Rattle.scr_term.specs.declared.operations.operation.Op.TheVariants.{Home, Move, Clear, EraseLine, EraseBelow, EraseChars, InsertLines, DeleteLines, InsertChars, DeleteChars, Reset, Set, Put}
+use Rattle.scr_term.specs.declared.operations.operation.Op.TheVariants.{Home, Move, Clear, EraseLine, EraseBelow, EraseChars, InsertLines, DeleteLines, InsertChars, DeleteChars, ScrollUp, ScrollDown, Reset, Set, Put, Repeat}
 use Rattle.scr_term.specs.declared.operations.operation.Spot.{Spot}
 use Rattle.scr_term.specs.declared.operations.operation.Spot.TheVariants.{At, Margin}
 use Rattle.scr_term.specs.Operations.Abilities.{Abilities, full_abilities}
@@ -151,12 +151,15 @@ changes_cells (EraseChars n) = true
 changes_cells (InsertChars n) = true
 changes_cells (DeleteChars n) = true
 changes_cells (Put byte) = true
+changes_cells (Repeat byte n) = true
 changes_cells op = false
 
--- The operation moves rows at the cursor.
+-- The operation moves rows, from the cursor's on or all.
 abbrev pub moves_rows : Op → Bool
 moves_rows (InsertLines n) = true
 moves_rows (DeleteLines n) = true
+moves_rows (ScrollUp n) = true
+moves_rows (ScrollDown n) = true
 moves_rows op = false
 
 -- The operation clears the screen.

@@ -371,6 +371,7 @@ fn changes_cells(op: Op) -> bool
             | Op::InsertChars(_)
             | Op::DeleteChars(_)
             | Op::Put(_)
+            | Op::Repeat(..)
     )
 }
 
@@ -378,7 +379,10 @@ fn changes_cells(op: Op) -> bool
 fn moves_rows(op: Op) -> bool
     ensures { result ≡ moves_rows op }
 {
-    matches!(op, Op::InsertLines(_) | Op::DeleteLines(_))
+    matches!(
+        op,
+        Op::InsertLines(_) | Op::DeleteLines(_) | Op::ScrollUp(_) | Op::ScrollDown(_)
+    )
 }
 
 // Whether an operation makes the whole screen blank.

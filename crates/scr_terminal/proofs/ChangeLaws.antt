@@ -5,7 +5,7 @@ use Rattle.scr_term.specs.Operations.Abilities.{full_abilities}
 use Rattle.scr_term.specs.Operations.Laws.{ShownPenLaws}
 use Rattle.scr_term.specs.Operations.Texts.{has}
 use Rattle.scr_term.specs.declared.operations.operation.Op.{Op}
-use Rattle.scr_term.specs.declared.operations.operation.Op.TheVariants.{Home, Move, Column, Line, Up, Down, Left, Right, Return, Clear, EraseLine, EraseBelow, EraseChars, InsertLines, DeleteLines, InsertChars, DeleteChars, Reset, ExitAttributes, Enter, Set, Fore, Back, Put}
+use Rattle.scr_term.specs.declared.operations.operation.Op.TheVariants.{Home, Move, Column, Line, Up, Down, Left, Right, UpBy, DownBy, LeftBy, RightBy, Return, Clear, EraseLine, EraseBelow, EraseChars, InsertLines, DeleteLines, InsertChars, DeleteChars, ScrollUp, ScrollDown, Reset, ExitAttributes, Enter, Set, Fore, Back, Put, Repeat}
 use Rattle.scr_term.specs.Operations.Profiles.{ProfileView}
 use Rattle.scr_term.specs.Operations.States.{IsShownPen, TerminalState}
 use Rattle.scr_term.specs.Operations.Steps.{motion_made}
@@ -39,6 +39,10 @@ next_is_shown pens profile pen (Up n) had is = is
 next_is_shown pens profile pen (Down n) had is = is
 next_is_shown pens profile pen (Left n) had is = is
 next_is_shown pens profile pen (Right n) had is = is
+next_is_shown pens profile pen (UpBy n) had is = is
+next_is_shown pens profile pen (DownBy n) had is = is
+next_is_shown pens profile pen (LeftBy n) had is = is
+next_is_shown pens profile pen (RightBy n) had is = is
 next_is_shown pens profile pen Return had is = is
 next_is_shown pens profile pen Clear had is = is
 next_is_shown pens profile pen EraseLine had is = is
@@ -48,6 +52,9 @@ next_is_shown pens profile pen (InsertLines n) had is = is
 next_is_shown pens profile pen (DeleteLines n) had is = is
 next_is_shown pens profile pen (InsertChars n) had is = is
 next_is_shown pens profile pen (DeleteChars n) had is = is
+next_is_shown pens profile pen (ScrollUp n) had is = is
+next_is_shown pens profile pen (ScrollDown n) had is = is
 next_is_shown pens profile pen (Fore n) had is = is
 next_is_shown pens profile pen (Back n) had is = is
 next_is_shown pens profile pen (Put b) had is = is
+next_is_shown pens profile pen (Repeat b n) had is = is

@@ -1,8 +1,8 @@
 -- Characters that are written into a row in one go: what is left is a display, and it is what steps one after another lead to.
-use Rattle.std.proofs.Common.{◌≡◌, ◌∙◌, ℕ, suc, ◌+◌, ◌-◌, ◌<◌, ◌≤◌, ◌⊎◌, inl, inr, ◌&&◌, Bool, true, false, All, List, [], ◌∷◌, ◌++◌, length, set, take, drop, Option, Some, None, cond, is_some, option_and_then, sym, subst, ap, refl, arith, nat_lt}
+use Rattle.std.proofs.Common.{◌≡◌, ◌∙◌, ℕ, zero, suc, replicate, ◌+◌, ◌-◌, ◌<◌, ◌≤◌, ◌⊎◌, inl, inr, ◌&&◌, Bool, true, false, All, List, [], ◌∷◌, ◌++◌, length, set, take, drop, Option, Some, None, cond, is_some, option_and_then, sym, subst, ap, refl, arith, nat_lt}
 use Rattle.std.specs.List.{list_all}
 use Rattle.std.proofs.lemmas.Bool.Decides.{nat_tests}
-use Rattle.std.proofs.lemmas.List.{append-nil, append_assoc, drop-set-lt, get_or-set_same, length-take, set-get_or, set-set, take-append-drop, take-take, take_more_set}
+use Rattle.std.proofs.lemmas.List.{append-nil, append_assoc, drop-set-lt, get_or-set_same, length-replicate, length-take, set-get_or, set-set, take-append-drop, take-take, take_more_set}
 use Rattle.std.proofs.lemmas.List.Elements.{All-append, All-cons, All-drop, All-get_or, All-nil, All-set, All-take}
 use Rattle.scr_cells.specs.CellViews.{is_character}
 use Rattle.scr_cells.specs.Grids.{GridView, GridLaws, IsGrid, grid_row, grid_with, grid_with_run, line_with_run}
@@ -10,16 +10,16 @@ use Rattle.scr_cells.specs.LookViews.{LookView, IsLook, blank}
 use Rattle.scr_cells.specs.MadeRuns.{before, made_while}
 use Rattle.scr_cells.specs.PenViews.{PenView, IsPen}
 use Rattle.scr_term.specs.declared.operations.operation.Op.{Op}
-use Rattle.scr_term.specs.declared.operations.operation.Op.TheVariants.{Put}
+use Rattle.scr_term.specs.declared.operations.operation.Op.TheVariants.{Put, Repeat}
 use Rattle.scr_term.specs.declared.operations.operation.Spot.{Spot}
 use Rattle.scr_term.specs.declared.operations.operation.Spot.TheVariants.{At, Margin}
 use Rattle.scr_terminal.specs.Code.Writing.{look_of, looks_ahead, looks_written, spot_after}
 use Rattle.scr_terminal.specs.Displays.{DisplayView, IsDisplay, gone_on}
-use Rattle.scr_terminal.specs.Characters.{characters_ahead, characters_first, is_character_op, places_ahead}
+use Rattle.scr_terminal.specs.Characters.{RepeatsAreCharacters, characters_ahead, characters_first, is_character_op, places_ahead}
 use Rattle.scr_term.specs.Operations.Laws.{LookGridLaws}
 use Rattle.scr_term.specs.Operations.Profiles.{ProfileView}
-use Rattle.scr_term.specs.Operations.States.{TerminalState, IsSpot, written_at}
-use Rattle.scr_term.specs.Operations.Steps.{runs, step}
+use Rattle.scr_term.specs.Operations.States.{TerminalState, IsSpot, from_place, written_at}
+use Rattle.scr_term.specs.Operations.Steps.{act, runs, step}
 use Rattle.scr_term.specs.Operations.Texts.{has}
 
 -- ---- a display
@@ -258,3 +258,64 @@ gone_ahead looks profile display view new ops n same is wide many made =
     made
     ∙ ap (λ (d : DisplayView). record d { state = looks_written d.columns d.state (looks_ahead d.columns d.state ops) d.state.spot }) same
     ∙ sym (ap (gone_on view) (runs_ahead looks profile view ops n (subst IsDisplay same is) wide many))
+
+-- ---- a character that is repeated
+
+many_first : (byte : ℕ) → is_character byte ≡ true → (n : ℕ) → characters_first (replicate n (Put byte)) ≡ n
+many_first byte is zero = refl
+many_first byte is (suc n) = ap (λ t. cond t (suc (characters_first (replicate n (Put byte)))) 0) is ∙ ap suc (many_first byte is n)
+
+many_made : (pen : PenView) (byte : ℕ) → is_character byte ≡ true → (n : ℕ) → made_while (look_of pen) (replicate n (Put byte)) ≡ replicate n (record { byte = byte; pen = pen })
+many_made pen byte is zero = refl
+many_made pen byte is (suc n) =
+    ap (λ t. before (cond {A = Option LookView} t (Some (record { byte = byte; pen = pen })) None) (made_while (look_of pen) (replicate n (Put byte)))) is
+    ∙ ap (λ looks. record { byte = byte; pen = pen } ∷ looks) (many_made pen byte is n)
+
+pub many_looks : (n : ℕ) (look : LookView) → IsLook look → All IsLook (replicate n look)
+many_looks zero look is = All-nil IsLook
+many_looks (suc n) look is = All-cons IsLook look (replicate n look) is (many_looks n look is)
+
+-- what a test chose, where the other way out is none
+chosen : {A : Type 0} (b : Bool) (x : Option A) (y : A) → cond b x None ≡ Some y → (b ≡ true) × (x ≡ Some y)
+chosen true x y h = (refl, h)
+chosen false x y h = (cc, cc)
+
+both_first : (a b : Bool) → (a && b) ≡ true → a ≡ true
+both_first true b h = refl
+both_first false b h = (cc)
+
+no_state : (new : TerminalState) → None ≡ Some new → ⊥
+no_state new h = (cc)
+
+repeated_at : LookGridLaws → (profile : ProfileView) (rows : ℕ) (old new : TerminalState) (byte n : ℕ) → is_character byte ≡ true → IsGrid rows profile.columns old.grid
+    → (spot : Spot) → old.spot ≡ spot → IsSpot rows profile.columns spot
+    → from_place spot (λ r c. cond (nat_lt (c + n) profile.columns) (Some (record old { grid = grid_with_run old.grid r c (replicate n (record { byte = byte; pen = old.pen })); spot = At r (c + n) })) None) ≡ Some new
+    → runs profile old (replicate n (Put byte)) ≡ Some new
+repeated_at looks profile rows old new byte n one is (Margin r) at inside h = absurd (no_state new h)
+repeated_at looks profile rows old new byte n one is (At r c) at inside h =
+    let look : LookView = record { byte = byte; pen = old.pen } in
+    let ops = replicate n (Put byte) in
+    let there : nat_lt c profile.columns ≡ true = grind (arith, nat_tests, inside.1) in
+    let here : old.spot ≡ spot_after profile.columns r c = at ∙ sym (ap (λ t. cond t (At r c) (Margin r)) there) in
+    let got = chosen (nat_lt (c + n) profile.columns) _ new h in
+    let fits : c + n < profile.columns = grind (arith, nat_tests, got.0) in
+    let many = length-replicate n (Put byte) in
+    let ends : c + length (replicate n look) ≡ c + n = ap (λ k. c + k) (length-replicate n look) in
+    let whole : take (characters_first ops) ops ≡ ops = ap (λ k. take k ops) (many_first byte one n ∙ sym many) ∙ take_whole ops in
+    ap (runs profile old) (sym whole)
+    ∙ written_ahead looks profile rows old r c ops is inside.0 here (omega (arith, fits, many))
+    ∙ ap (λ run. Some (looks_written profile.columns old run (At r c))) (many_made old.pen byte one n)
+    ∙ ap (λ k. Some (record old { grid = grid_with_run old.grid r c (replicate n look); spot = spot_after profile.columns r k })) ends
+    ∙ ap (λ t. Some (record old { grid = grid_with_run old.grid r c (replicate n look); spot = cond t (At r (c + n)) (Margin r) })) got.0
+    ∙ got.1
+  where
+    take_whole : (xs : List Op) → take (length xs) xs ≡ xs
+    take_whole [] = refl
+    take_whole (x ∷ xs) = ap (λ rest. x ∷ rest) (take_whole xs)
+
+pub repeats_are_characters : LookGridLaws → RepeatsAreCharacters
+unfolding has
+repeats_are_characters looks profile old new s byte n h =
+    let got = chosen (has profile (Repeat byte n)) (act profile old (Repeat byte n)) new h in
+    let one : is_character byte ≡ true = both_first _ _ (both_first _ _ got.0) in
+    repeated_at looks profile profile.rows old new byte n one s.whole old.spot refl s.spot got.1

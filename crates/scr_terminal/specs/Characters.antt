@@ -1,8 +1,12 @@
--- The characters at the front of a list of operations, as far as the row has room. terminfo(5), 'Basic Capabilities'.
-use Rattle.std.specs.Prelude.{ℕ, suc, ◌-◌, Bool, false, List, [], ◌∷◌, take, if◌then◌else◌}
+-- The characters at the front of a list of operations, as far as the row has room; and characters that are repeated.
+-- terminfo(5), 'Basic Capabilities' and 'Miscellaneous'.
+use Rattle.std.specs.Prelude.{ℕ, suc, ◌≡◌, ◌-◌, Bool, false, List, [], ◌∷◌, Some, replicate, take, if◌then◌else◌}
 use Rattle.scr_cells.specs.CellViews.{is_character}
+use Rattle.scr_term.specs.Operations.Profiles.{ProfileView, abilities}
+use Rattle.scr_term.specs.Operations.States.{TerminalState, IsState}
+use Rattle.scr_term.specs.Operations.Steps.{runs, step}
 use Rattle.scr_term.specs.declared.operations.operation.Op.{Op}
-use Rattle.scr_term.specs.declared.operations.operation.Op.TheVariants.{Put}
+use Rattle.scr_term.specs.declared.operations.operation.Op.TheVariants.{Put, Repeat}
 use Rattle.scr_term.specs.declared.operations.operation.Spot.{Spot}
 use Rattle.scr_term.specs.declared.operations.operation.Spot.TheVariants.{At, Margin}
 
@@ -24,3 +28,9 @@ places_ahead columns (Margin r) = 0
 -- The number of these characters that fit into the cursor's row.
 abbrev pub characters_ahead : ℕ → Spot → List Op → ℕ
 characters_ahead columns spot ops = characters_first (take (places_ahead columns spot) ops)
+
+-- A character that is repeated n times is that character n times, as terminfo(5) has it.
+abbrev pub RepeatsAreCharacters : Type 0
+RepeatsAreCharacters =
+    (profile : ProfileView) (old new : TerminalState) → IsState (abilities profile) old
+    → (byte n : ℕ) → step profile old (Repeat byte n) ≡ Some new → runs profile old (replicate n (Put byte)) ≡ Some new

@@ -6,7 +6,7 @@ use Rattle.scr_term.specs.Operations.Profiles.{ProfileView}
 use Rattle.scr_term.specs.Operations.States.{TerminalState}
 use Rattle.scr_term.specs.Operations.Steps.{step}
 use Rattle.scr_term.specs.declared.operations.operation.Op.{Op}
-use Rattle.scr_term.specs.declared.operations.operation.Op.TheVariants.{Home, Move, Column, Line, Up, Down, Left, Right, Return, Reset, ExitAttributes, Enter, Set, Fore, Back}
+use Rattle.scr_term.specs.declared.operations.operation.Op.TheVariants.{Home, Move, Column, Line, Up, Down, Left, Right, UpBy, DownBy, LeftBy, RightBy, Return, Reset, ExitAttributes, Enter, Set, Fore, Back}
 use Rattle.scr_term.specs.declared.operations.operation.Spot.{Spot}
 
 -- From every state with this position and pen, the operation is defined and changes only the position, to `next`.
@@ -29,6 +29,10 @@ is_motion (Up n) = true
 is_motion (Down n) = true
 is_motion (Left n) = true
 is_motion (Right n) = true
+is_motion (UpBy n) = true
+is_motion (DownBy n) = true
+is_motion (LeftBy n) = true
+is_motion (RightBy n) = true
 is_motion Return = true
 is_motion op = false
 

@@ -12,8 +12,8 @@ use scr_cells::{Attrs, Pen};
 use scr_term::{Op, Profile, Spot};
 
 /// The spot to which a motion leads from `spot` with `pen`: `Home`, `Move`, `Column`, `Line`,
-/// `Up`, `Down`, `Left`, `Right` or `Return`. The motion changes nothing else. The terminal has
-/// to have the operation; `cost` is `Some` if it does.
+/// `Up`, `Down`, `Left`, `Right`, `UpBy`, `DownBy`, `LeftBy`, `RightBy` or `Return`. The motion
+/// changes nothing else. The terminal has to have the operation; `cost` is `Some` if it does.
 ///
 /// `None` if the operation is none of these or is undefined: it leads off the screen; the
 /// cursor is at the margin, and it is neither `Home` nor `Move`; or an attribute or a colour is
@@ -31,7 +31,7 @@ pub fn moved_by(profile: &Profile, spot: Spot, pen: Pen, op: Op) -> Option<Spot>
         return None;
     }
     match op {
-        Op::Put(_) => None,
+        Op::Put(_) | Op::Repeat(..) => None,
         _ => match change_of(profile, spot, pen, op) {
             Some(Change::Moved(next)) => Some(next),
             _ => None,

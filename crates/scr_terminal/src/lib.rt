@@ -5,11 +5,13 @@
 mod displays;
 mod ecma;
 mod leading;
+mod repeating;
 mod steps;
 mod terminal;
 mod undefined;
 
 pub use ecma::{EcmaScreen, one_division, pieces_do_not_matter, screens_follow_texts};
 pub use leading::{moved_by, turned};
+pub use repeating::repeats_are_characters;
 pub use terminal::Terminal;
 pub use undefined::Undefined;

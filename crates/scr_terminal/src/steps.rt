@@ -2,7 +2,7 @@
 ghost use Rattle.std.specs.Option.{is_none};
 ghost use Rattle.std.specs.Prelude.{◌≡◌, ◌≢◌, ◌||◌, ◌&&◌, ℕ, true, Some, None, IsTrue, IfSome, if◌then◌else◌};
 ghost use Rattle.scr_cells.specs.PenViews.{is_plain_pen, plain_pen};
-ghost use Rattle.scr_term.specs.declared.operations.operation.Op.TheVariants.{Put};
+ghost use Rattle.scr_term.specs.declared.operations.operation.Op.TheVariants.{Put, Repeat};
 ghost use Rattle.scr_term.specs.Operations.Abilities.{full_abilities};
 ghost use Rattle.scr_term.specs.Operations.States.{IsShownPen, IsSpot, from_place};
 ghost use Rattle.scr_term.specs.Operations.Steps.{act, lines_below_erased};
@@ -13,20 +13,21 @@ ghost use Rattle.scr_terminal.specs.Code.Changes.{IsChange, IsMoved, MakesAt, Ma
 use crate::displays::{
     Change, characters_deleted, characters_erased, characters_inserted, lines_deleted,
     lines_inserted, moved_down, moved_left, moved_right, moved_to, moved_to_column, moved_to_row,
-    moved_up, rest_of_line_erased,
+    moved_up, rest_of_line_erased, scrolled_down, scrolled_up,
 };
 use bitflags::Flags;
 use scr_cells::{Pen, Size};
 use scr_term::{Op, Profile, Spot, shown_pen_laws};
 
-/// What an operation changes that the terminal has and that writes no character; `None` if it is
+/// What an operation changes that the terminal has and that writes no characters; `None` if it is
 /// undefined.
 #[tactic(auto, unfolding(scr_term::specs::Operations::Texts::has))]
 pub(crate) fn change_of(profile: &Profile, spot: Spot, pen: Pen, op: Op) -> Option<Change>
     requires has { IsTrue (has profile.now op) }
     requires spot { IsSpot profile.now.rows profile.now.columns spot }
     requires pen { IsShownPen (full_abilities profile.now.rows profile.now.columns) pen }
-    requires other { (byte : ℕ) → op ≢ Put byte }
+    requires one { (byte : ℕ) → op ≢ Put byte }
+    requires several { (byte n : ℕ) → op ≢ Repeat byte n }
     ensures value { MakesWith profile.now.rows profile.now.columns spot pen result (λ state. act profile.now state op) }
     ensures change { IfSome result (IsChange profile.now.rows profile.now.columns) }
     ensures motion { is_motion op ≡ true → IfSome result IsMoved }
@@ -42,6 +43,10 @@ pub(crate) fn change_of(profile: &Profile, spot: Spot, pen: Pen, op: Op) -> Opti
         Op::Down(count) => motion(profile, pen, moved_down(size, spot, count)),
         Op::Left(count) => motion(profile, pen, moved_left(size, spot, count)),
         Op::Right(count) => motion(profile, pen, moved_right(size, spot, count)),
+        Op::UpBy(count) => motion(profile, pen, moved_up(size, spot, count)),
+        Op::DownBy(count) => motion(profile, pen, moved_down(size, spot, count)),
+        Op::LeftBy(count) => motion(profile, pen, moved_left(size, spot, count)),
+        Op::RightBy(count) => motion(profile, pen, moved_right(size, spot, count)),
         Op::Return => motion(profile, pen, moved_to_column(size, spot, 0)),
         Op::Clear => erasure(pen, Some(Change::Cleared)),
         Op::EraseLine => erasure(pen, rest_of_line_erased(size, spot)),
@@ -51,11 +56,13 @@ pub(crate) fn change_of(profile: &Profile, spot: Spot, pen: Pen, op: Op) -> Opti
         Op::DeleteLines(count) => erasure(pen, lines_deleted(size, spot, count)),
         Op::InsertChars(count) => erasure(pen, characters_inserted(size, spot, count)),
         Op::DeleteChars(count) => erasure(pen, characters_deleted(size, spot, count)),
+        Op::ScrollUp(count) => erasure(pen, scrolled_up(size, spot, count)),
+        Op::ScrollDown(count) => erasure(pen, scrolled_down(size, spot, count)),
         Op::Reset | Op::Enter(_) | Op::Set(_) => Some(Change::Rendered(next_pen(pen, op))),
         Op::ExitAttributes => exited(pen),
         Op::Fore(colour) => coloured(spot, pen.with_foreground(Some(colour))),
         Op::Back(colour) => coloured(spot, pen.with_background(Some(colour))),
-        Op::Put(_) => None,
+        Op::Put(_) | Op::Repeat(..) => None,
     }
 }
 
@@ -73,7 +80,7 @@ fn motion(profile: &Profile, pen: Pen, change: Option<Change>) -> Option<Change>
     }
 }
 
-// An erasure, an insertion or a deletion. With an attribute or a colour on, it is undefined.
+// An erasure, an insertion, a deletion or a scroll. With an attribute or a colour on, it is undefined.
 fn erasure(pen: Pen, change: Option<Change>) -> Option<Change>
     ensures { result ≡ if is_plain_pen pen then change else None }
 {

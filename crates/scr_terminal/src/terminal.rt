@@ -14,7 +14,7 @@ ghost use Rattle.scr_term.specs.Operations.States.{IsShownPen, IsSpot};
 ghost use Rattle.scr_term.specs.Operations.Steps.{act, runs, step};
 ghost use Rattle.scr_term.specs.Operations.Texts.{has};
 ghost use Rattle.scr_terminal.specs.Code.Changes.{IsChange, changed};
-ghost use Rattle.scr_term.specs.declared.operations.operation.Op.TheVariants.{Put};
+ghost use Rattle.scr_term.specs.declared.operations.operation.Op.TheVariants.{Put, Repeat};
 
 use crate::displays::{Change, Display};
 use crate::steps::change_of;
@@ -68,13 +68,17 @@ impl Terminal {
     /// Returns `Undefined`, and changes nothing, if
     ///
     /// - the terminal does not have the operation, or it leads off the screen;
-    /// - it erases, inserts or deletes while an attribute or a colour is on, or moves then without
-    ///   `msgr`, or it is `ExitAttributes` while a colour is on;
+    /// - it erases, inserts, deletes or scrolls while an attribute or a colour is on, or moves then
+    ///   without `msgr`, or it is `ExitAttributes` while a colour is on;
     /// - the cursor is at the margin and the operation is not `Home`, `Move`, `Clear`, `Reset`,
     ///   `ExitAttributes`, `Enter` or `Set`;
     /// - it is `EraseBelow`, `InsertLines` or `DeleteLines`, and the cursor is not in the first
     ///   column;
-    /// - it inserts or deletes more lines or characters than there are from the cursor's on.
+    /// - it is `ScrollUp` and the cursor is not in the first column of the last row, or `ScrollDown`
+    ///   and the cursor is not in that of the first;
+    /// - it inserts or deletes more lines or characters than there are from the cursor's on, or
+    ///   scrolls by more lines than there are;
+    /// - it is `Repeat`, and would write in the last column.
     pub fn step(&mut self, profile: &Profile, op: Op) -> Result<(), Undefined>
         requires rows { profile.now.rows ≡ self.old.rows }
         requires columns { profile.now.columns ≡ self.old.columns }
@@ -86,6 +90,7 @@ impl Terminal {
         }
         let is_defined = match op {
             Op::Put(byte) => self.write(profile, byte),
+            Op::Repeat(byte, count) => self.repeat(profile, byte, count),
             _ => self.change(profile, op),
         };
         if is_defined { Ok(()) } else { Err(Undefined) }
@@ -189,12 +194,26 @@ impl Terminal {
         is_defined
     }
 
+    // Writes a character several times; if that is undefined, returns false and changes nothing.
+    #[tactic(auto, unfolding(scr_term::specs::Operations::Texts::has))]
+    fn repeat(&mut self, profile: &Profile, byte: u8, count: u32) -> bool
+        requires has { IsTrue (has profile.now (Repeat byte count)) }
+        requires columns { profile.now.columns ≡ self.old.columns }
+        ensures answer { result ≡ is_some (act profile.now self.old.state (Repeat byte count)) }
+        ensures state { self.new ≡ gone_on self.old (act profile.now self.old.state (Repeat byte count)) }
+    {
+        let is_defined = self.display.repeat(byte, count);
+        let _size = self.display.size();
+        is_defined
+    }
+
     // Does what any other operation means; if that is undefined, returns false and changes nothing.
     fn change(&mut self, profile: &Profile, op: Op) -> bool
         requires has { IsTrue (has profile.now op) }
         requires rows { profile.now.rows ≡ self.old.rows }
         requires columns { profile.now.columns ≡ self.old.columns }
-        requires other { (byte : ℕ) → op ≢ Put byte }
+        requires one { (byte : ℕ) → op ≢ Put byte }
+        requires several { (byte n : ℕ) → op ≢ Repeat byte n }
         ensures answer { result ≡ is_some (act profile.now self.old.state op) }
         ensures state { self.new ≡ gone_on self.old (act profile.now self.old.state op) }
     {

@@ -1,6 +1,6 @@
 //! Changes of an emulated terminal, worked out before any of them is made.
 ghost use Rattle.std.specs.Prelude.{◌≤◌, IfSome};
-ghost use Rattle.scr_term.specs.Operations.States.{IsSpot, characters_deleted, characters_erased, characters_inserted, lines_deleted, lines_inserted, moved_down, moved_left, moved_right, moved_to, moved_to_column, moved_to_row, moved_up, rest_of_line_erased};
+ghost use Rattle.scr_term.specs.Operations.States.{IsSpot, characters_deleted, characters_erased, characters_inserted, lines_deleted, lines_inserted, moved_down, moved_left, moved_right, moved_to, moved_to_column, moved_to_row, moved_up, rest_of_line_erased, scrolled_down, scrolled_up};
 ghost use Rattle.scr_terminal.specs.Code.Changes.{IsChange, IsMoved, Makes, MakesAt};
 
 use scr_cells::{Pen, Size};
@@ -206,6 +206,34 @@ pub(crate) fn characters_deleted(size: Size, spot: Spot, count: u32) -> Option<C
         Spot::At(row, column) if column + count <= size.columns => {
             Some(Change::CharactersDeleted(row, column, count))
         }
+        _ => None,
+    }
+}
+
+/// Moves all lines up by `count`; `None` if there are not so many, outside the bottom left corner, and
+/// at the margin.
+pub(crate) fn scrolled_up(size: Size, spot: Spot, count: u32) -> Option<Change>
+    requires { IsSpot size.rows size.columns spot }
+    ensures value { MakesAt size.rows size.columns spot result (λ state. scrolled_up size.rows size.columns state count) }
+    ensures change { IfSome result (IsChange size.rows size.columns) }
+{
+    match spot {
+        Spot::At(row, 0) if row + 1 == size.rows && count <= size.rows => {
+            Some(Change::LinesDeleted(0, count))
+        }
+        _ => None,
+    }
+}
+
+/// Moves all lines down by `count`; `None` if there are not so many, outside the top left corner, and
+/// at the margin.
+pub(crate) fn scrolled_down(size: Size, spot: Spot, count: u32) -> Option<Change>
+    requires { IsSpot size.rows size.columns spot }
+    ensures value { MakesAt size.rows size.columns spot result (λ state. scrolled_down size.rows size.columns state count) }
+    ensures change { IfSome result (IsChange size.rows size.columns) }
+{
+    match spot {
+        Spot::At(0, 0) if count <= size.rows => Some(Change::LinesInserted(0, count)),
         _ => None,
     }
 }

@@ -5,7 +5,7 @@ ghost use Rattle.scr_cells.specs.Grids.{grid_at, grid_filled, grid_of, grid_row,
 ghost use Rattle.scr_cells.specs.LookViews.{IsLook, LookView, blank};
 ghost use Rattle.scr_cells.specs.PictureViews.{IsPlace};
 ghost use Rattle.scr_term.specs.Operations.Abilities.{full_abilities};
-ghost use Rattle.scr_term.specs.Operations.States.{IsShownPen, IsSpot, character_written, is_from_place};
+ghost use Rattle.scr_term.specs.Operations.States.{IsShownPen, IsSpot, character_repeated, character_written, is_from_place};
 ghost use Rattle.scr_terminal.specs.Code.Changes.{IsChange, changed};
 ghost use Rattle.scr_terminal.specs.Code.Writing.{look_of, looks_ahead, looks_written, spot_after};
 ghost use Rattle.scr_terminal.specs.Displays.{IsDisplay, blank_display, gone_on};
@@ -126,6 +126,27 @@ impl Display {
                 } else {
                     Spot::Margin(row)
                 };
+                true
+            }
+            _ => false,
+        }
+    }
+
+    /// Writes a graphic character `count` times at the cursor, which goes behind the last. At the
+    /// margin, and where the last column would be written, it returns false and changes nothing.
+    pub(crate) fn repeat(&mut self, byte: u8, count: u32) -> bool
+        requires character { IsCharacter byte }
+        requires few { count ≤ 500 }
+        ensures answer { result ≡ is_some (character_repeated self.old.columns self.old.state byte count) }
+        ensures state { self.new ≡ gone_on self.old (character_repeated self.old.columns self.old.state byte count) }
+    {
+        let columns = self.grid.columns();
+        match (self.spot, Look::written(byte, self.pen)) {
+            (Spot::At(row, column), Some(look)) if column + count < columns => {
+                let _byte = look.byte();
+                grid_laws::<Look>();
+                self.grid.fill(row, column, column + count, look);
+                self.spot = Spot::At(row, column + count);
                 true
             }
             _ => false,

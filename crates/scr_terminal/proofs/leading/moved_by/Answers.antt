@@ -10,7 +10,8 @@ change_of-requires c = record {
   has = search rules;
   spot = search rules;
   pen = c.is_shown_by_all.ensures.shown _ _ (search rules);
-  other = search rules;
+  one = search rules;
+  several = search rules;
 }
 
 pub returns-then-not-is_shown_by_all-clause-undefined : goal.returns-then-not-is_shown_by_all-clause-undefined

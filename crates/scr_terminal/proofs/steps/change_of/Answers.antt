@@ -32,3 +32,19 @@ returns-in-Column-clause-value c =
 pub returns-in-Line-clause-value : goal.returns-in-Line-clause-value
 returns-in-Line-clause-value c =
     rw c.in-Line.is (motion_makes c.args.profile.now c.size-size.result.rows c.size-size.result.columns c.args.spot c.args.pen c.moved_to_row.result c.motion-in-Line.result (λ rows columns state. moved_to_row rows columns state c.in-Line.row) c.size-size.ensures.rows c.size-size.ensures.columns c.moved_to_row.ensures.value c.motion-in-Line.ensures.value)
+
+pub returns-in-UpBy-clause-value : goal.returns-in-UpBy-clause-value
+returns-in-UpBy-clause-value c =
+    rw c.in-UpBy.is (motion_makes c.args.profile.now c.size-size.result.rows c.size-size.result.columns c.args.spot c.args.pen c.moved_up-in-UpBy.result c.motion-in-UpBy.result (λ rows columns state. moved_up rows columns state c.in-UpBy.count) c.size-size.ensures.rows c.size-size.ensures.columns c.moved_up-in-UpBy.ensures.value c.motion-in-UpBy.ensures.value)
+
+pub returns-in-DownBy-clause-value : goal.returns-in-DownBy-clause-value
+returns-in-DownBy-clause-value c =
+    rw c.in-DownBy.is (motion_makes c.args.profile.now c.size-size.result.rows c.size-size.result.columns c.args.spot c.args.pen c.moved_down-in-DownBy.result c.motion-in-DownBy.result (λ rows columns state. moved_down rows columns state c.in-DownBy.count) c.size-size.ensures.rows c.size-size.ensures.columns c.moved_down-in-DownBy.ensures.value c.motion-in-DownBy.ensures.value)
+
+pub returns-in-LeftBy-clause-value : goal.returns-in-LeftBy-clause-value
+returns-in-LeftBy-clause-value c =
+    rw c.in-LeftBy.is (motion_makes c.args.profile.now c.size-size.result.rows c.size-size.result.columns c.args.spot c.args.pen c.moved_left-in-LeftBy.result c.motion-in-LeftBy.result (λ rows columns state. moved_left rows columns state c.in-LeftBy.count) c.size-size.ensures.rows c.size-size.ensures.columns c.moved_left-in-LeftBy.ensures.value c.motion-in-LeftBy.ensures.value)
+
+pub returns-in-RightBy-clause-value : goal.returns-in-RightBy-clause-value
+returns-in-RightBy-clause-value c =
+    rw c.in-RightBy.is (motion_makes c.args.profile.now c.size-size.result.rows c.size-size.result.columns c.args.spot c.args.pen c.moved_right-in-RightBy.result c.motion-in-RightBy.result (λ rows columns state. moved_right rows columns state c.in-RightBy.count) c.size-size.ensures.rows c.size-size.ensures.columns c.moved_right-in-RightBy.ensures.value c.motion-in-RightBy.ensures.value)
