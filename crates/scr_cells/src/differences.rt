@@ -6,6 +6,7 @@
 //! among eight, or fewer than eight are left, the places are compared one by one.
 ghost use Rattle.std.specs.Prelude.{ℕ, ◌≡◌, ◌≢◌, ◌+◌, ◌<◌, ◌≤◌, length, true};
 ghost use Rattle.scr_cells.specs.Code.Lanes.{HasEight};
+ghost use Rattle.scr_cells.specs.Code.Numbers.{look_of};
 ghost use Rattle.scr_cells.specs.Differences.{IsFirstDifference, IsLastDifference, IsSameAt};
 
 use crate::{Cell, Look};
@@ -45,6 +46,14 @@ pub fn last_look_difference(a: &[Look], b: &[Look]) -> Option<usize>
     ensures { IsLastDifference a.now b.now result }
 {
     last_place(a, b)
+}
+
+/// The numbers of eight looks. Two looks with one number are the same.
+#[inline(always)]
+pub fn look_numbers(looks: &[Look; 8]) -> u32x8
+    ensures { HasEight look_of looks.now 0 result }
+{
+    eight(looks, 0)
 }
 
 /// An element that is one number.

@@ -20,7 +20,7 @@ mod sizes;
 pub use attributes::Attrs;
 pub use cells::{Cell, is_character};
 pub use differences::{
-    first_difference, first_look_difference, last_difference, last_look_difference,
+    first_difference, first_look_difference, last_difference, last_look_difference, look_numbers,
 };
 pub use grids::Grid;
 pub use laws::{attribute_laws, grid_laws};

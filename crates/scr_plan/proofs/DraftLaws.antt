@@ -220,15 +220,17 @@ put_more laws have grids profile p picture k fits painter who row column place h
   bytes = bytes ∙ put.bytes;
   spot = spot ∙ put.spot;
   pen = same_pen ∙ put.pen;
-  covers =
+  covers = λ waits paid first start right.
+      let kept : mid.keeps ≡ true = right.keeps in
       covers_joined profile picture row column place (place + 1) old mid next low (omega arith) put.covers
       (put_covers laws have grids profile p picture k fits painter who row place high wide byte mid next (spot_after profile.columns row place) here pen is refl (record {
         keeps = refl;
-        ops = λ kept. added;
+        ops = λ _. added;
+        left = λ dropped. (cc);
         bytes = λ had. omega (arith, low, put_price profile byte);
         spot_is = refl;
         pen_is = refl;
-      }));
+      })) waits paid first start right;
 }
   where
     mid : Draft

@@ -184,13 +184,13 @@ behind_each columns row column next old = record old { bytes = counted_up (old.b
 one_counted : RunLaws → ProfilesHave → (profile : ProfileView) → IsProfile profile → (painter : Painter) (picture : PictureView) → IsPicture picture → (before : Option (List LookView)) (row column : ℕ) → row_differs painter picture before (row, column) ≡ true
     → (old mid new : Draft) (left : Option PenView) → left ≡ pen_before painter picture before row column
     → Continues profile old mid (if is_that_pen left (painter_look painter picture (row, column)).pen then [] else painter_begins painter (row, column) (painter_look painter picture (row, column)).pen)
-    → mid.spot ≡ At row column → mid.keeps ≡ false → new.bytes ≡ counted_up (mid.bytes + 1) → new.keeps ≡ mid.keeps → new.spot ≡ spot_after profile.columns row column → new.pen ≡ mid.pen
+    → mid.spot ≡ At row column → mid.keeps ≡ false → new.ops.items ≡ mid.ops.items → new.bytes ≡ counted_up (mid.bytes + 1) → new.keeps ≡ mid.keeps → new.spot ≡ spot_after profile.columns row column → new.pen ≡ mid.pen
     → Continues profile old new (flat_map (row_paints painter picture before) (filter (row_differs painter picture before) (part_places column (column + 1 - column) row)))
-one_counted laws have profile p painter picture k before row column unlike old mid new left is_left begun here counts paid keeps behind pen =
+one_counted laws have profile p painter picture k before row column unlike old mid new left is_left begun here counts same paid keeps behind pen =
     let look : LookView = painter_look painter picture (row, column) in
     painted_goes profile painter picture before row column old new left look unlike is_left refl
     (goes_on profile old mid new _ _ begun
-    (put_goes laws have profile p look.byte (byte_is picture k row column (grid_row picture.lines row) look.byte refl refl) mid new row column here (λ kept. (cc)) paid keeps behind pen))
+    (put_goes laws have profile p look.byte (byte_is picture k row column (grid_row picture.lines row) look.byte refl refl) mid new row column here (λ kept. (cc)) (λ dropped. same) paid keeps behind pen))
 
 Counts : ProfileView → Painter → PictureView → Option (List LookView) → ℕ → ℕ → ℕ → Draft → Draft → Type 0
 Counts profile painter picture before row column next old mid =
@@ -204,7 +204,7 @@ each_goes : RunLaws → ProfilesHave → (profile : ProfileView) → IsProfile p
     → Counts profile painter picture before row column (column + suc n) old mid
 unfolding Counts
 each_goes laws have profile p painter picture k columns before row column old mid left is_left counts here begun zero wide unlike alike =
-    one_counted laws have profile p painter picture k before row column (unlike column (omega arith) (omega arith)) old mid (behind_each profile.columns row column (column + 1) mid) left is_left begun here counts
+    one_counted laws have profile p painter picture k before row column (unlike column (omega arith) (omega arith)) old mid (behind_each profile.columns row column (column + 1) mid) left is_left begun here counts refl
     (omega arith) refl (ap (spot_after profile.columns row) (omega arith)) refl
 each_goes laws have profile p painter picture k columns before row column old mid left is_left counts here begun (suc n) wide unlike alike =
     let at : ℕ = column + suc n in
@@ -222,7 +222,7 @@ each_goes laws have profile p painter picture k columns before row column old mi
     (part_goes profile painter picture before row column at (at + 1) old now (behind_each profile.columns row column (at + 1) mid) (omega arith) (omega arith)
     (each_goes laws have profile p painter picture k columns before row column old mid left is_left counts here begun n (omega (arith, wide)) (λ c low high. unlike c low (omega (arith, high))) (λ c low high. alike c low (omega (arith, high))))
     (one_counted laws have profile p painter picture k before row at (unlike at (omega arith) (omega arith)) now now (behind_each profile.columns row column (at + 1) mid) (pen_before painter picture before row at) refl
-    (unless_there profile painter now (pen_before painter picture before row at) (row, at) pen that) there counts (omega arith) refl (ap (spot_after profile.columns row) (omega arith)) refl))
+    (unless_there profile painter now (pen_before painter picture before row at) (row, at) pen that) there counts refl (omega arith) refl (ap (spot_after profile.columns row) (omega arith)) refl))
   where
     inside : nat_lt (column + suc n - 1 + 1) profile.columns ≡ true
     inside = grind (arith, wide, columns)

@@ -5,7 +5,7 @@ use Rattle.std.specs.List.{All}
 use Rattle.std.proofs.lemmas.List.{append-nil}
 use Rattle.std.proofs.lemmas.Nat.{and_le_r}
 use Rattle.std.proofs.Math.Bool.{or-true}
-use Rattle.std.proofs.Math.Seq.{drop-append_seam}
+use Rattle.std.proofs.Math.Seq.{drop-append_seam, take-append_seam}
 use Rattle.scr_cells.specs.CellViews.{IsCharacter}
 use Rattle.scr_cells.specs.Grids.{grid_with, is_in_run}
 use Rattle.scr_cells.specs.PenViews.{PenView, is_plain_pen, plain_pen}
@@ -83,7 +83,7 @@ busy_becomes profile old new ops run less = record { run = run; kept_run = run; 
 -- operations that were pushed after the others and then counted
 pub counted : (profile : ProfileView) (old mid new : Draft) (begun : ℕ) (more : List Op) (spot : Spot) (pen : PenView) → begun ≡ length old.ops.items → mid.ops.items ≡ old.ops.items ++ more → mid.bytes ≡ old.bytes
     → mid.keeps ≡ old.keeps → IsCounted profile mid new begun spot pen → IsAdded profile old new more spot pen
-counted profile old mid new begun more spot pen at added bytes keeps paid = grind (arith, drop-append_seam)
+counted profile old mid new begun more spot pen at added bytes keeps paid = grind (arith, drop-append_seam, take-append_seam)
 
 -- what was added of operations is what is left of them
 led : RunLaws → (profile : ProfileView) → IsProfile profile → (stores : Bool) (first : List Op) (start : TerminalState) (all : List Op) (old new : Draft) (more kept : List Op) (spot : Spot) (pen : PenView) (next : TerminalState) → IsAdded profile old new kept spot pen
@@ -100,6 +100,7 @@ led laws profile p stores first start all old new more kept spot pen next added 
       bytes = rw less (omega (arith, added.bytes (laws.had profile joining.now next kept becomes.kept_run), joining.bytes, (price_is laws profile).joined before kept));
       stored = added.keeps ∙ joining.stored;
       ops = λ storing. rw less (added.ops (joining.stored ∙ storing) ∙ ap (λ ops. ops ++ kept) (joining.ops storing) ∙ append_assoc first before kept);
+      left = λ dropping. added.left (joining.stored ∙ dropping) ∙ joining.left dropping;
     }
 
 -- ---- motions and turns
@@ -148,14 +149,14 @@ begin_goes laws have profile p picture k painter who place inside pen is old new
 
 -- a character
 pub put_goes : RunLaws → ProfilesHave → (profile : ProfileView) → IsProfile profile → (byte : ℕ) → IsCharacter byte → (old new : Draft) (r c : ℕ) → old.spot ≡ At r c
-    → (old.keeps ≡ true → new.ops.items ≡ old.ops.items ++ Put byte ∷ []) → new.bytes ≡ counted_up (old.bytes + 1) → new.keeps ≡ old.keeps → new.spot ≡ spot_after profile.columns r c → new.pen ≡ old.pen
+    → (old.keeps ≡ true → new.ops.items ≡ old.ops.items ++ Put byte ∷ []) → (old.keeps ≡ false → new.ops.items ≡ old.ops.items) → new.bytes ≡ counted_up (old.bytes + 1) → new.keeps ≡ old.keeps → new.spot ≡ spot_after profile.columns r c → new.pen ≡ old.pen
     → Continues profile old new (Put byte ∷ [])
-put_goes laws have profile p byte is old new r c here added paid keeps behind pen stores first start all joining =
+put_goes laws have profile p byte is old new r c here added left paid keeps behind pen stores first start all joining =
     let now : TerminalState = joining.now in
     let next : TerminalState = record { grid = grid_with now.grid r c (record { byte = byte; pen = now.pen }); spot = spot_after profile.columns r c; pen = now.pen } in
     let run : runs profile now (Put byte ∷ []) ≡ Some next = one_run profile now next (Put byte) ((have profile p).put byte is) (ap (written_at profile.columns now byte) (joining.spot ∙ here)) in
     led laws profile p stores first start all old new (Put byte ∷ []) (Put byte ∷ []) next.spot old.pen next
-    (record { keeps = keeps; ops = added; bytes = λ _. paid ∙ ap (λ n. counted_up (old.bytes + n)) (sym (put_price profile byte)); spot_is = behind; pen_is = pen }) joining
+    (record { keeps = keeps; ops = added; left = left; bytes = λ _. paid ∙ ap (λ n. counted_up (old.bytes + n)) (sym (put_price profile byte)); spot_is = behind; pen_is = pen }) joining
     (busy_becomes profile now next (Put byte ∷ []) run (busy profile now (Put byte) (λ s. refl) [] (λ s. refl))) refl joining.pen
 
 -- the rest of a line is erased
@@ -192,13 +193,20 @@ counts_less laws profile old new xs ys more goes is stores first start all joini
     ap (λ ops. without_idle profile start (all ++ ops)) is ∙ ap (without_idle profile start) (sym (append_assoc all xs ys)) ∙ idle_joined profile start now.now (all ++ xs) ys now.run in
     let sum : price profile (without_idle profile start (all ++ more)) ≡ price profile (without_idle profile start (all ++ xs)) + price profile (without_idle profile now.now ys) =
     ap (price profile) cut ∙ (price_is laws profile).joined (without_idle profile start (all ++ xs)) (without_idle profile now.now ys) in
-    omega (arith, now.bytes, sum)
+    (omega (arith, now.bytes, sum), now.left)
 
 -- ---- what begins a repaint
 
 -- no attribute on and default colours are shown by each terminal
 plain_shown : (profile : ProfileView) → IsShownPen (abilities profile) plain_pen
 plain_shown profile = grind (arith, and_le_r)
+
+-- attributes can be turned off where one may be on
+pub may_reset : (profile : ProfileView) → HasLaws profile → (pen : PenView) → IsShownPen (abilities profile) pen → (is_there profile Sgr0 ≡ true) ⊎ (is_plain_pen pen ≡ true)
+may_reset profile can pen shown = may_by (is_there profile Sgr0) refl
+  where
+    may_by : (b : Bool) → is_there profile Sgr0 ≡ b → (is_there profile Sgr0 ≡ true) ⊎ (is_plain_pen pen ≡ true)
+    may_by b is = grind arith
 
 -- a state of the emulated terminal is one of the profile when no attribute is on
 plain_state : (profile : ProfileView) (state : TerminalState) → IsState (full_abilities profile.rows profile.columns) state → IsState (abilities profile) (plain state)
@@ -210,7 +218,6 @@ first_resets : (profile : ProfileView) → HasLaws profile → (state : Terminal
 first_resets profile can state may = grind arith
 
 pub begun_joining : RunLaws → ProfilesHave → (profile : ProfileView) → IsProfile profile → (painter : Painter) → painter ≡ painter_of profile → (memory : MemoryView) → IsMemory memory → memory.rows ≡ profile.rows → memory.columns ≡ profile.columns
-    → (is_there profile Sgr0 ≡ true) ⊎ (is_plain_pen memory.state.pen ≡ true) → (first ops part : List Op) (joining : Draft) → ops ≡ first ++ resets_unless_plain painter memory.state.pen → part ≡ drop (length first) ops
-    → (All (λ op. has profile op ≡ true) part → joining.bytes ≡ counted_up (price profile part)) → joining.ops.items ≡ ops → joining.spot ≡ memory.state.spot → joining.pen ≡ plain_pen
-    → IsJoining profile joining.keeps first memory.state (resets profile) joining
-begun_joining laws have profile p painter who memory is rows columns may first ops part joining made cut paid items spot pen = search (arith, first_resets, drop-append_seam, plain, plain_state, price)
+    → (is_there profile Sgr0 ≡ true) ⊎ (is_plain_pen memory.state.pen ≡ true) → (first : List Op) (mid joining : Draft) (begun : ℕ) (spot : Spot) (pen : PenView) → begun ≡ length first → mid.ops.items ≡ first ++ resets_unless_plain painter memory.state.pen → mid.bytes ≡ 0
+    → spot ≡ memory.state.spot → pen ≡ plain_pen → IsCounted profile mid joining begun spot pen → IsJoining profile mid.keeps first memory.state (resets profile) joining
+begun_joining laws have profile p painter who memory is rows columns may first mid joining begun spot pen at made none there plainly counted = search (arith, first_resets, drop-append_seam, take-append_seam, plain, plain_state, price)

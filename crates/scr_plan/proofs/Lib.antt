@@ -8,6 +8,7 @@ pub mod JoinedRowLaws
 pub mod JoiningLaws
 pub mod LookingLaws
 pub mod RememberedPlanLaws
+pub mod RepeatLaws
 pub mod PartLaws
 pub mod PlaceLaws
 pub mod PlainLaws

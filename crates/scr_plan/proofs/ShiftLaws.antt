@@ -5,11 +5,11 @@ use Rattle.scr_cells.specs.Grids.{GridLaws, IsGrid, grid_at, grid_of, rows_down,
 use Rattle.scr_cells.specs.LookViews.{LookView, blank}
 use Rattle.scr_cells.specs.PenViews.{is_plain_pen}
 use Rattle.scr_term.specs.declared.operations.operation.Op.{Op}
-use Rattle.scr_term.specs.declared.operations.operation.Op.TheVariants.{DeleteLines, InsertLines}
+use Rattle.scr_term.specs.declared.operations.operation.Op.TheVariants.{DeleteLines, InsertLines, ScrollDown, ScrollUp}
 use Rattle.scr_term.specs.declared.operations.operation.Spot.TheVariants.{At}
 use Rattle.scr_term.specs.Operations.Laws.{RunLaws}
 use Rattle.scr_term.specs.Operations.Profiles.{ProfileView, IsProfile}
-use Rattle.scr_term.specs.Operations.States.{TerminalState, from_place, lines_deleted, lines_inserted, shifted}
+use Rattle.scr_term.specs.Operations.States.{TerminalState, from_place, lines_deleted, lines_inserted, scrolled_down, scrolled_up, shifted}
 use Rattle.scr_term.specs.Operations.Steps.{act, runs}
 use Rattle.scr_term.specs.Operations.Texts.{all_bytes, has}
 use Rattle.scr_plan.proofs.DraftLaws.{begun_aimed}
@@ -18,7 +18,7 @@ use Rattle.scr_plan.proofs.PlaceLaws.{one_run, then_runs}
 use Rattle.scr_plan.proofs.ScratchLaws.{grid_same}
 use Rattle.scr_plan.specs.Code.Drafts.{Aim, IsAdded, KeepsEvery}
 use Rattle.scr_plan.specs.Code.Joinings.{counted_up}
-use Rattle.scr_plan.specs.Code.Moves.{IsSent, IsShift, Sends, shifted_at}
+use Rattle.scr_plan.specs.Code.Moves.{IsScroll, IsSent, IsShift, Sends, shifted_at}
 use Rattle.scr_prices.specs.declared.shifts.Shift.{Shift}
 use Rattle.scr_plan.specs.declared.strokes.Draft.{Draft}
 
@@ -91,6 +91,31 @@ inserted laws grids profile p row count fits had old mid new keeps here plain ad
     ∙ ap (λ b. if b then Some (shifted profile.rows profile.columns (rows_down row profile.rows count) state) else None) (inside_test row count profile.rows fits))
     had added start grid (sent_kept laws grids profile old mid keeps start grid sent)
 
+-- all rows, from the corners where they scroll
+corner_test : (rows row count : ℕ) → row + 1 ≡ rows → count ≤ rows → (0 == 0 && row + 1 == rows && nat_le count rows) ≡ true
+corner_test rows row count last fits = grind (arith, nat_tests)
+
+top_test : (rows count : ℕ) → count ≤ rows → (0 == 0 && 0 == 0 && nat_le count rows) ≡ true
+top_test rows count fits = grind (arith, nat_tests)
+
+pub scrolled_all_up : RunLaws → GridLaws LookView → (profile : ProfileView) → IsProfile profile → (row count : ℕ) → row + 1 ≡ profile.rows → count ≤ profile.rows → has profile (ScrollUp count) ≡ true → (old mid new : Draft) → KeepsEvery profile old mid → mid.spot ≡ At row 0 → is_plain_pen mid.pen ≡ true
+    → IsAdded profile mid new (ScrollUp count ∷ []) mid.spot mid.pen → Sends profile (rows_up 0 profile.rows count blank) old new
+scrolled_all_up laws grids profile p row count last fits had old mid new keeps here plain added start grid sent =
+    op_sent laws profile p mid new (ScrollUp count) (rows_up 0 profile.rows count blank)
+    (λ state at with. ap (λ b. if b then scrolled_up profile.rows profile.columns state count else None) (ap is_plain_pen with ∙ plain)
+    ∙ ap (λ spot. from_place spot (λ r c. if c == 0 && r + 1 == profile.rows && nat_le count profile.rows then Some (shifted profile.rows profile.columns (rows_up 0 profile.rows count) state) else None)) (at ∙ here)
+    ∙ ap (λ b. if b then Some (shifted profile.rows profile.columns (rows_up 0 profile.rows count) state) else None) (corner_test profile.rows row count last fits))
+    had added start grid (sent_kept laws grids profile old mid keeps start grid sent)
+
+pub scrolled_all_down : RunLaws → GridLaws LookView → (profile : ProfileView) → IsProfile profile → (count : ℕ) → count ≤ profile.rows → has profile (ScrollDown count) ≡ true → (old mid new : Draft) → KeepsEvery profile old mid → mid.spot ≡ At 0 0 → is_plain_pen mid.pen ≡ true
+    → IsAdded profile mid new (ScrollDown count ∷ []) mid.spot mid.pen → Sends profile (rows_down 0 profile.rows count blank) old new
+scrolled_all_down laws grids profile p count fits had old mid new keeps here plain added start grid sent =
+    op_sent laws profile p mid new (ScrollDown count) (rows_down 0 profile.rows count blank)
+    (λ state at with. ap (λ b. if b then scrolled_down profile.rows profile.columns state count else None) (ap is_plain_pen with ∙ plain)
+    ∙ ap (λ spot. from_place spot (λ r c. if c == 0 && r == 0 && nat_le count profile.rows then Some (shifted profile.rows profile.columns (rows_down 0 profile.rows count) state) else None)) (at ∙ here)
+    ∙ ap (λ b. if b then Some (shifted profile.rows profile.columns (rows_down 0 profile.rows count) state) else None) (top_test profile.rows count fits))
+    had added start grid (sent_kept laws grids profile old mid keeps start grid sent)
+
 -- ---- one move after another
 
 -- a move that is the same in every place is the same
@@ -147,3 +172,11 @@ either_up profile shift old new up sends = sent_alike profile (rows_up shift.top
 
 pub either_down : (profile : ProfileView) (shift : Shift) (old new : Draft) → shift.up ≡ false → Sends profile (rows_down shift.top shift.end shift.count blank) old new → Sends profile (shifted_at shift) old new
 either_down profile shift old new down sends = sent_alike profile (rows_down shift.top shift.end shift.count blank) (shifted_at shift) old new (λ at r c high wide. sym (ap (λ b. if b then rows_up shift.top shift.end shift.count blank at r c else rows_down shift.top shift.end shift.count blank at r c) down)) sends
+
+pub scroll_up : (profile : ProfileView) (shift : Shift) (old new : Draft) → IsScroll profile shift → shift.up ≡ true → Sends profile (rows_up 0 profile.rows shift.count blank) old new → Sends profile (shifted_at shift) old new
+scroll_up profile shift old new scroll up sends =
+    either_up profile shift old new up (subst (λ top. Sends profile (rows_up top shift.end shift.count blank) old new) (sym scroll.first) (subst (λ end. Sends profile (rows_up 0 end shift.count blank) old new) (sym scroll.last) sends))
+
+pub scroll_down : (profile : ProfileView) (shift : Shift) (old new : Draft) → IsScroll profile shift → shift.up ≡ false → Sends profile (rows_down 0 profile.rows shift.count blank) old new → Sends profile (shifted_at shift) old new
+scroll_down profile shift old new scroll down sends =
+    either_down profile shift old new down (subst (λ top. Sends profile (rows_down top shift.end shift.count blank) old new) (sym scroll.first) (subst (λ end. Sends profile (rows_down 0 end shift.count blank) old new) (sym scroll.last) sends))

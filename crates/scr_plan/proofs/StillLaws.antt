@@ -7,7 +7,7 @@ use Rattle.scr_cells.specs.LookViews.{LookView, blank}
 use Rattle.scr_cells.specs.PenViews.{PenView}
 use Rattle.scr_memory.specs.Memories.{moves_rows}
 use Rattle.scr_term.specs.declared.operations.operation.Op.{Op}
-use Rattle.scr_term.specs.declared.operations.operation.Op.TheVariants.{InsertLines, DeleteLines}
+use Rattle.scr_term.specs.declared.operations.operation.Op.TheVariants.{InsertLines, DeleteLines, ScrollUp, ScrollDown}
 use Rattle.scr_term.specs.declared.operations.operation.Spot.{Spot}
 use Rattle.scr_term.specs.declared.operations.operation.Spot.TheVariants.{At, Margin}
 use Rattle.scr_term.specs.Operations.Profiles.{ProfileView, IsProfile}
@@ -52,4 +52,16 @@ still_rows profile is (DeleteLines n) (At r c) t p q leads =
     (guarded _ _ after (guarded _ _ after (guarded (has profile (DeleteLines n)) (act profile (gone (At r c) p) (DeleteLines n)) after (leads (gone (At r c) p) refl refl))))
 still_rows profile is (DeleteLines n) (Margin r) t p q leads =
     nothing _ (gone t q) (guarded (has profile (DeleteLines n)) (act profile (gone (Margin r) p) (DeleteLines n)) (gone t q) (leads (gone (Margin r) p) refl refl))
+still_rows profile is (ScrollUp n) (At r c) t p q leads =
+    let after : TerminalState = gone t q in
+    has_rows profile.rows profile.columns (rows_up 0 profile.rows n blank (grid_at blank [])) (At r c) t p q is.size.some_rows
+    (guarded _ _ after (guarded _ _ after (guarded (has profile (ScrollUp n)) (act profile (gone (At r c) p) (ScrollUp n)) after (leads (gone (At r c) p) refl refl))))
+still_rows profile is (ScrollUp n) (Margin r) t p q leads =
+    nothing _ (gone t q) (guarded (has profile (ScrollUp n)) (act profile (gone (Margin r) p) (ScrollUp n)) (gone t q) (leads (gone (Margin r) p) refl refl))
+still_rows profile is (ScrollDown n) (At r c) t p q leads =
+    let after : TerminalState = gone t q in
+    has_rows profile.rows profile.columns (rows_down 0 profile.rows n blank (grid_at blank [])) (At r c) t p q is.size.some_rows
+    (guarded _ _ after (guarded _ _ after (guarded (has profile (ScrollDown n)) (act profile (gone (At r c) p) (ScrollDown n)) after (leads (gone (At r c) p) refl refl))))
+still_rows profile is (ScrollDown n) (Margin r) t p q leads =
+    nothing _ (gone t q) (guarded (has profile (ScrollDown n)) (act profile (gone (Margin r) p) (ScrollDown n)) (gone t q) (leads (gone (Margin r) p) refl refl))
 still_rows profile is op s t p q leads = refl

@@ -114,29 +114,27 @@ pub(crate) fn joined_anew(alloc: Global, scene: &Scene<'_>) -> Result<Ops, NoMem
     Ok(Ops(joining.ops))
 }
 
-// Room for the operations that usually lead to a place: they are counted, and not kept.
-const FEW_OPERATIONS: usize = 16;
-
-// The number of bytes of the joined repaint. If that is above the limit, it may be any number
+// The number of bytes of the joined repaint, and the operations, which are as they were: behind
+// them each part of the repaint is counted. If the number is above the limit, it may be any one
 // between the two.
 #[inline(never)]
 pub(crate) fn bytes_of_joined(
-    alloc: Global,
     update: &Update<'_>,
     changes: &[RowChange],
+    ops: Vec<Op>,
     limit: usize,
-) -> Result<usize, NoMemory>
+) -> Result<(usize, Vec<Op>), NoMemory>
     requires update { IsUpdate update.now }
     requires known { is_known update.now.memory.now ≡ true }
     requires changes { AreChanges update.now.scene.profile.now update.now.wanted.now.picture update.now.memory.now changes.now update.now.wanted.now.picture.rows }
     requires pen { (is_there update.now.scene.profile.now Sgr0 ≡ true) ⊎ (is_plain_pen update.now.memory.now.state.pen ≡ true) }
     requires some { (is_none_left (differing update.now.scene.profile.now update.now.wanted.now.picture update.now.memory.now) && is_placed update.now.memory.now update.now.wanted.now.picture.wish) ≡ false }
-    ensures { IfOk result (λ bytes. bytes ≤ counted_up (length (all_bytes update.now.scene.profile.now (joined_of update.now.scene.profile.now update.now.memory.now update.now.wanted.now.picture)))) }
+    ensures bytes { IfOk result (λ counted. counted.0 ≤ counted_up (length (all_bytes update.now.scene.profile.now (joined_of update.now.scene.profile.now update.now.memory.now update.now.wanted.now.picture)))) }
+    ensures ops { IfOk result (λ counted. counted.1.items ≡ ops.items) }
 {
-    let ops = Vec::with_capacity(alloc, FEW_OPERATIONS)?;
     let mut joining = Draft::on_remembered(&update.scene, update.memory, ops, false)?;
     joining.join_changes(update, changes, Some(limit))?;
-    Ok(joining.bytes)
+    Ok((joining.bytes, joining.ops))
 }
 
 // The joined repaint.

@@ -56,19 +56,20 @@ impl Draft {
         profiles_have();
         let _size = scene.profile.size();
         let _memory = memory.size();
+        let spot = memory.remembered_spot();
+        let pen = memory.remembered_pen();
         let mut ops = ops;
         let begun = ops.len();
-        scene
-            .painter
-            .reset_unless_plain(memory.remembered_pen(), &mut ops)?;
-        let bytes = price_of(scene.profile, &ops[begun..]);
-        Ok(Draft {
+        scene.painter.reset_unless_plain(pen, &mut ops)?;
+        let mut draft = Draft {
             ops,
             keeps,
-            bytes,
-            spot: memory.remembered_spot(),
-            pen: Pen::plain(),
-        })
+            bytes: 0,
+            spot,
+            pen,
+        };
+        draft.count(scene.profile, begun, spot, Pen::plain());
+        Ok(draft)
     }
 
     // Turns attributes off and makes colours default.

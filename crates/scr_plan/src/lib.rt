@@ -14,6 +14,7 @@ mod plan_laws;
 mod plans;
 mod priced_rows;
 mod reaching;
+mod repeating;
 mod runs;
 mod scenes;
 mod scratch_laws;

@@ -1,14 +1,15 @@
 //! Which columns of the rows that are known an update looks at, which rows differ there, and their runs.
-ghost use Rattle.std.specs.Prelude.{ℕ, ◌≡◌, ◌<◌, ◌≤◌, [], IfSome, None, OnOk, false, true};
+ghost use Rattle.std.specs.Prelude.{ℕ, ◌≡◌, ◌<◌, ◌≤◌, [], IfSome, None, OnOk, true, ◌&&◌, nat_le, nat_lt};
 ghost use Rattle.scr_virtual.specs.Ranges.{IsRange};
 ghost use Rattle.scr_memory.specs.Memories.{is_known, is_known_row};
 ghost use Rattle.scr_plan.specs.Code.Drafts.{HasChangesIn, KeepsRuns};
 ghost use Rattle.scr_plan.specs.Code.Planning.{AreChanges, AreNoneByOutside, IsChange, IsSameRow, range_by};
 ghost use Rattle.scr_plan.specs.Code.Scenes.{IsUpdate};
 
+use crate::runs::Runs;
 use crate::scenes::Update;
 use scr_cells::NoMemory;
-use scr_prices::{RowChange, Run};
+use scr_prices::RowChange;
 use scr_virtual::Virtual;
 use smallvec::SmallVec;
 
@@ -96,7 +97,7 @@ impl Update<'_> {
         &self,
         changes: &[RowChange],
         rows: (u32, u32),
-        runs: &mut Vec<Run>,
+        runs: &mut Runs,
     ) -> Result<(), NoMemory>
         requires update { IsUpdate self.now }
         requires known { is_known self.now.memory.now ≡ true }
@@ -113,11 +114,7 @@ impl Update<'_> {
     }
 
     // Finds the runs of a row that differs.
-    pub(crate) fn find_in_row(
-        &self,
-        change: &RowChange,
-        runs: &mut Vec<Run>,
-    ) -> Result<(), NoMemory>
+    pub(crate) fn find_in_row(&self, change: &RowChange, runs: &mut Runs) -> Result<(), NoMemory>
         requires update { IsUpdate self.now }
         requires known { is_known_row self.now.memory.now change.now.row ≡ true }
         requires change { IsChange self.now.scene.profile.now self.now.wanted.now.picture self.now.memory.now change.now }
@@ -131,7 +128,7 @@ impl Update<'_> {
     }
 
     // Finds the runs of a row that is known, if it differs.
-    pub(crate) fn find_if_changed(&self, row: u32, runs: &mut Vec<Run>) -> Result<(), NoMemory>
+    pub(crate) fn find_if_changed(&self, row: u32, runs: &mut Runs) -> Result<(), NoMemory>
         requires update { IsUpdate self.now }
         requires row { row < self.now.wanted.now.picture.rows }
         requires known { is_known_row self.now.memory.now row ≡ true }
@@ -147,7 +144,7 @@ impl Update<'_> {
 
 // Whether a row is from the first of two rows up to the second.
 fn is_among(rows: (u32, u32), row: u32) -> bool
-    ensures { result ≡ false → rows.0 ≤ row → row < rows.1 → ⊥ }
+    ensures { result ≡ (nat_le rows.0 row && nat_lt row rows.1) }
 {
     rows.0 <= row && row < rows.1
 }

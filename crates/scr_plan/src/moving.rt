@@ -10,11 +10,12 @@ ghost use Rattle.scr_memory.specs.Memories.{is_known};
 ghost use Rattle.scr_term.specs.Operations.Profiles.{abilities};
 ghost use Rattle.scr_term.specs.Operations.States.{IsShownPen};
 
+use crate::runs::{FEW_RUNS, Runs};
 use crate::scenes::Update;
 use crate::shown::shown_row;
 use crate::strokes::Draft;
 use scr_cells::{Look, NoMemory, grid_laws};
-use scr_prices::{Chooser, RowChange, Run, Shift, Worth, can_shift_some};
+use scr_prices::{Chooser, RowChange, Shift, Worth, can_shift_some};
 use std::alloc::Global;
 
 impl Draft {
@@ -25,7 +26,7 @@ impl Draft {
         alloc: Global,
         update: &Update<'_>,
         changes: &[RowChange],
-    ) -> Result<Vec<Run>, NoMemory>
+    ) -> Result<Runs, NoMemory>
         requires update { IsUpdate update.now }
         requires known { is_known update.now.memory.now ≡ true }
         requires changes { AreChanges update.now.scene.profile.now update.now.wanted.now.picture update.now.memory.now changes.now update.now.wanted.now.picture.rows }
@@ -36,7 +37,10 @@ impl Draft {
         grid_laws::<Look>();
         let _profile = update.scene.profile.size();
         let _memory = update.memory.size();
-        let mut runs = Vec::new(alloc);
+        let mut runs = Runs::new(alloc);
+        if changes.len() > FEW_RUNS {
+            runs.reserve(changes.len())?;
+        }
         let shift = self.shift_if_worth(alloc, update, changes, &mut runs)?;
         self.slide_rows(alloc, update, shift, &mut runs)?;
         Ok(runs)
@@ -48,7 +52,7 @@ impl Draft {
         alloc: Global,
         update: &Update<'_>,
         changes: &[RowChange],
-        runs: &mut Vec<Run>,
+        runs: &mut Runs,
     ) -> Result<Option<Shift>, NoMemory>
         requires update { IsUpdate update.now }
         requires known { is_known update.now.memory.now ≡ true }
@@ -74,7 +78,7 @@ impl Update<'_> {
     fn find_until_worth(
         &self,
         changes: &[RowChange],
-        runs: &mut Vec<Run>,
+        runs: &mut Runs,
     ) -> Result<Option<u32>, NoMemory>
         requires update { IsUpdate self.now }
         requires known { is_known self.now.memory.now ≡ true }
@@ -90,7 +94,7 @@ impl Update<'_> {
         let mut worth = Worth::of(Chooser::new(self.scene.profile, self.scene.picture));
         for change in changes {
             self.find_in_row(change, runs)?;
-            if worth.is_enough(runs) {
+            if worth.add_row(runs.as_slice()) {
                 return Ok(Some(change.row + 1));
             }
         }
@@ -104,7 +108,7 @@ impl Update<'_> {
         shift: Option<Shift>,
         changes: &[RowChange],
         row: u32,
-        runs: &mut Vec<Run>,
+        runs: &mut Runs,
     ) -> Result<(), NoMemory>
         requires update { IsUpdate self.now }
         requires known { is_known self.now.memory.now ≡ true }
@@ -127,7 +131,7 @@ impl Update<'_> {
         &self,
         shift: Shift,
         changes: &[RowChange],
-        runs: &mut Vec<Run>,
+        runs: &mut Runs,
     ) -> Result<(), NoMemory>
         requires update { IsUpdate self.now }
         requires known { is_known self.now.memory.now ≡ true }
@@ -142,7 +146,7 @@ impl Update<'_> {
     }
 
     // Finds the runs of the rows that a shift changes, over what they show then.
-    fn find_moved(&self, shift: Shift, runs: &mut Vec<Run>) -> Result<(), NoMemory>
+    fn find_moved(&self, shift: Shift, runs: &mut Runs) -> Result<(), NoMemory>
         requires update { IsUpdate self.now }
         requires shift { IsShift self.now.scene.picture.now.rows shift }
         ensures kept { OnOk result (KeepsRuns runs.old.items runs.new.items) }
@@ -155,7 +159,7 @@ impl Update<'_> {
     }
 
     // Finds those of one of these rows.
-    fn find_in_moved(&self, shift: Shift, row: u32, runs: &mut Vec<Run>) -> Result<(), NoMemory>
+    fn find_in_moved(&self, shift: Shift, row: u32, runs: &mut Runs) -> Result<(), NoMemory>
         requires update { IsUpdate self.now }
         requires shift { IsShift self.now.scene.picture.now.rows shift }
         requires row { row < self.now.scene.picture.now.rows }

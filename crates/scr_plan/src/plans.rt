@@ -18,6 +18,7 @@ use crate::painting::Painter;
 use crate::plan_laws::{joined_is_cheap, plans_are_made, plans_are_remembered};
 use crate::scenes::{Scene, Update};
 use crate::short_plan::{short_anew, short_changes};
+use crate::strokes::Draft;
 use crate::unknown_rows::short_partly;
 use scr_cells::{Look, NoMemory, Pen, grid_laws};
 use scr_memory::{Memory, known_memories, memory_runs};
@@ -129,9 +130,7 @@ fn changes(alloc: Global, update: &Update<'_>) -> Result<Ops, NoMemory>
 // Whether no row differs, and the cursor is where it is wanted.
 fn is_nothing_left(update: &Update<'_>, changes: &[RowChange]) -> bool
     requires changes { AreChanges update.now.scene.profile.now update.now.wanted.now.picture update.now.memory.now changes.now update.now.wanted.now.picture.rows }
-    ensures none { result ≡ true → is_none_left (differing update.now.scene.profile.now update.now.wanted.now.picture update.now.memory.now) ≡ true }
-    ensures placed { result ≡ true → is_placed update.now.memory.now update.now.wanted.now.picture.wish ≡ true }
-    ensures some { result ≡ false → (is_none_left (differing update.now.scene.profile.now update.now.wanted.now.picture update.now.memory.now) && is_placed update.now.memory.now update.now.wanted.now.picture.wish) ≡ false }
+    ensures { result ≡ (is_none_left (differing update.now.scene.profile.now update.now.wanted.now.picture update.now.memory.now) && is_placed update.now.memory.now update.now.wanted.now.picture.wish) }
 {
     let _wanted = update.wanted.size();
     let _memory = update.memory.size();
@@ -159,7 +158,8 @@ fn paint_changes(alloc: Global, update: &Update<'_>, changes: &[RowChange]) -> R
     let _memory = update.memory.size();
     let _wanted = update.wanted.size();
     let draft = short_changes(alloc, update, changes)?;
-    let bytes = bytes_of_joined(alloc, update, changes, draft.bytes)?;
+    let (bytes, ops) = bytes_of_joined(update, changes, draft.ops, draft.bytes)?;
+    let draft = Draft { ops, ..draft };
     if draft.is_worth(bytes, update.wanted.size()) {
         return Ok(Ops(draft.ops));
     }

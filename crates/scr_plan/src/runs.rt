@@ -13,6 +13,13 @@ use crate::looking::is_shown_in;
 use crate::scenes::{Line, Scene};
 use scr_cells::{Look, NoMemory, Pen};
 use scr_prices::{How, Run};
+use smallvec::SmallVec;
+
+// The runs of an update: as many as a small one has take no allocation.
+pub(crate) type Runs = SmallVec<Run, FEW_RUNS>;
+
+// How many runs a small update has.
+pub(crate) const FEW_RUNS: usize = 2;
 
 // A row that is being cut: the next run begins in `column` or after it. Up to `stretch` the
 // columns belong to a stretch that was begun, up to `end` stretches are searched, and from there to
@@ -196,7 +203,7 @@ impl<'a> Cut<'a> {
     }
 
     // Adds all runs that are not cut off yet.
-    fn add_to(&self, runs: &mut Vec<Run>) -> Result<(), NoMemory>
+    fn add_to(&self, runs: &mut Runs) -> Result<(), NoMemory>
         requires cut { IsCut self.now }
         ensures kept { OnOk result (KeepsRuns runs.old.items runs.new.items) }
         ensures has { OnOk result (HasDiffering self.now.scene.painter self.now.scene.picture.now self.now.line.row (option_map (λ looks. looks.now) self.now.line.before) self.now.column self.now.last runs.new.items) }
@@ -235,7 +242,7 @@ impl Scene<'_> {
         row: u32,
         before: Option<&[Look]>,
         columns: (u32, u32),
-        runs: &mut Vec<Run>,
+        runs: &mut Runs,
     ) -> Result<(), NoMemory>
         requires row { row < self.now.picture.now.rows }
         requires width { IfSome before (λ looks. length looks.now ≡ self.now.picture.now.columns) }
@@ -257,7 +264,7 @@ impl Scene<'_> {
         row: u32,
         before: Option<&[Look]>,
         columns: (u32, u32),
-        runs: &mut Vec<Run>,
+        runs: &mut Runs,
     ) -> Result<(), NoMemory>
         requires row { row < self.now.picture.now.rows }
         requires width { IfSome before (λ looks. length looks.now ≡ self.now.picture.now.columns) }
@@ -271,7 +278,7 @@ impl Scene<'_> {
     }
 
     // Adds the runs of all places in the rows from `first` on that are not seen blank.
-    pub(crate) fn add_rows(&self, first: u32, runs: &mut Vec<Run>) -> Result<(), NoMemory>
+    pub(crate) fn add_rows(&self, first: u32, runs: &mut Runs) -> Result<(), NoMemory>
         ensures kept { OnOk result (KeepsRuns runs.old.items runs.new.items) }
         ensures has { OnOk result (HasMarks self.now.painter self.now.picture.now runs.new.items first self.now.picture.now.rows) }
     {

@@ -11,6 +11,7 @@ ghost use Rattle.scr_prices.specs.declared.runs.Run.{Run};
 ghost use Rattle.scr_prices.specs.declared.shifts.Shift.{Shift};
 ghost use Rattle.scr_term.specs.Operations.Texts.{has};
 
+use crate::runs::Runs;
 use crate::scenes::{Scene, Update};
 use crate::shown::{shown_row, slide_into};
 use crate::sliding::slide_of;
@@ -43,7 +44,7 @@ impl Draft {
         alloc: Global,
         update: &Update<'_>,
         shift: Option<Shift>,
-        runs: &mut Vec<Run>,
+        runs: &mut Runs,
     ) -> Result<(), NoMemory>
         requires update { IsUpdate update.now }
         requires shift { IfSome shift (IsShift update.now.scene.picture.now.rows) }
@@ -61,11 +62,11 @@ impl Draft {
         let mut from = 0;
         let mut begun = 0;
         while begun < runs.len() {
-            let row = runs[begun].row;
+            let row = runs.as_slice()[begun].row;
             if row < from || row >= size.rows {
                 return Ok(());
             }
-            let after = runs_end(runs, begun, row);
+            let after = runs_end(runs.as_slice(), begun, row);
             let part = Part { row, begun, after };
             begun = self.slide_row(update, shift, &part, runs, &mut room)?;
             from = row + 1;
@@ -80,7 +81,7 @@ impl Draft {
         update: &Update<'_>,
         shift: Option<Shift>,
         part: &Part,
-        runs: &mut Vec<Run>,
+        runs: &mut Runs,
         room: &mut Room,
     ) -> Result<usize, NoMemory>
         requires update { IsUpdate update.now }
@@ -102,7 +103,7 @@ impl Draft {
         let shown = RowRuns {
             row: part.row,
             looks,
-            runs: &runs[part.begun..part.after],
+            runs: &runs.as_slice()[part.begun..part.after],
         };
         match slide_of(update, &self.cursor(), &shown, &mut room.looks)? {
             Some(slide) => {
@@ -118,12 +119,7 @@ impl Draft {
 impl Scene<'_> {
     // Finds the runs of a row again, over the looks that were put together; those of later rows come
     // after them. Returns where these begin.
-    fn find_again(
-        &self,
-        part: &Part,
-        runs: &mut Vec<Run>,
-        room: &mut Room,
-    ) -> Result<usize, NoMemory>
+    fn find_again(&self, part: &Part, runs: &mut Runs, room: &mut Room) -> Result<usize, NoMemory>
         requires row { part.now.row < self.now.picture.now.rows }
         requires width { length room.old.looks.items ≡ self.now.picture.now.columns }
         requires begun { part.now.begun ≤ part.now.after }
@@ -135,7 +131,8 @@ impl Scene<'_> {
     {
         let size = self.picture.size();
         room.later.clear();
-        room.later.extend_from_slice(&runs[part.after..])?;
+        room.later
+            .extend_from_slice(&runs.as_slice()[part.after..])?;
         runs.truncate(part.begun);
         self.add_row(part.row, Some(&room.looks), (0, size.columns), runs)?;
         let next = runs.len();

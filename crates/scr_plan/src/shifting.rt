@@ -1,11 +1,11 @@
-//! Shifts of rows, as they are sent: lines are deleted and inserted.
+//! Shifts of rows, as they are sent: lines are deleted and inserted, or the screen scrolls.
 ghost use Rattle.std.specs.Prelude.{◌≡◌, ◌+◌, ◌<◌, ◌≤◌, IfOk, IfSome, OnOk, true};
 ghost use Rattle.scr_cells.specs.Grids.{rows_down, rows_up};
 ghost use Rattle.scr_cells.specs.LookViews.{blank};
 ghost use Rattle.scr_cells.specs.PenViews.{is_plain_pen};
 ghost use Rattle.scr_plan.specs.Code.Drafts.{KeepsEvery};
-ghost use Rattle.scr_plan.specs.Code.Moves.{IsShift, Sends, shifted_at, shown_at};
-ghost use Rattle.scr_term.specs.declared.operations.operation.Op.TheVariants.{DeleteLines, InsertLines};
+ghost use Rattle.scr_plan.specs.Code.Moves.{IsScroll, IsShift, Sends, shifted_at, shown_at};
+ghost use Rattle.scr_term.specs.declared.operations.operation.Op.TheVariants.{DeleteLines, InsertLines, ScrollDown, ScrollUp};
 ghost use Rattle.scr_term.specs.declared.operations.operation.Spot.TheVariants.{At};
 ghost use Rattle.scr_term.specs.Operations.Texts.{has};
 ghost use Rattle.scr_plan.specs.Code.Scenes.{IsScene, IsUpdate};
@@ -14,8 +14,8 @@ use crate::priced_rows::PricedRows;
 use crate::scenes::{Scene, Update};
 use crate::strokes::Draft;
 use scr_cells::{Look, NoMemory, grid_laws};
-use scr_prices::{RowChange, Shift, cheapest_motion, cheapest_shift};
-use scr_term::{Op, Spot, run_laws};
+use scr_prices::{RowChange, Shift, cheapest_motion, cheapest_shift, is_scrolled};
+use scr_term::{Op, Profile, Spot, run_laws};
 use std::alloc::Global;
 
 impl Draft {
@@ -132,6 +132,50 @@ impl Draft {
         }
     }
 
+    // Scrolls all rows up.
+    fn scroll_up(&mut self, scene: &Scene<'_>, count: u32) -> Result<(), NoMemory>
+        requires scene { IsScene scene.now }
+        requires inside { count ≤ scene.now.picture.now.rows }
+        requires has { has scene.now.profile.now (ScrollUp count) ≡ true }
+        ensures { OnOk result (Sends scene.now.profile.now (rows_up 0 scene.now.profile.now.rows count blank) self.old self.new) }
+    {
+        run_laws();
+        grid_laws::<Look>();
+        let _profile = scene.profile.size();
+        let size = scene.picture.size();
+        self.come_to(scene, size.rows - 1, 0)?;
+        self.add(scene.profile, Op::ScrollUp(count), self.spot, self.pen)
+    }
+
+    // Scrolls all rows down.
+    fn scroll_down(&mut self, scene: &Scene<'_>, count: u32) -> Result<(), NoMemory>
+        requires scene { IsScene scene.now }
+        requires inside { count ≤ scene.now.picture.now.rows }
+        requires has { has scene.now.profile.now (ScrollDown count) ≡ true }
+        ensures { OnOk result (Sends scene.now.profile.now (rows_down 0 scene.now.profile.now.rows count blank) self.old self.new) }
+    {
+        run_laws();
+        grid_laws::<Look>();
+        let _profile = scene.profile.size();
+        let _picture = scene.picture.size();
+        self.come_to(scene, 0, 0)?;
+        self.add(scene.profile, Op::ScrollDown(count), self.spot, self.pen)
+    }
+
+    // Shifts all rows by a scroll.
+    fn scroll(&mut self, scene: &Scene<'_>, shift: Shift) -> Result<(), NoMemory>
+        requires scene { IsScene scene.now }
+        requires shift { IsShift scene.now.picture.now.rows shift }
+        requires scrolls { IsScroll scene.now.profile.now shift }
+        ensures { OnOk result (Sends scene.now.profile.now (shifted_at shift) self.old self.new) }
+    {
+        if shift.up {
+            self.scroll_up(scene, shift.count)
+        } else {
+            self.scroll_down(scene, shift.count)
+        }
+    }
+
     // Shifts rows, if one shift saves enough.
     pub(crate) fn shift(
         &mut self,
@@ -150,12 +194,39 @@ impl Draft {
         let Some(shift) = if_inside(shift, scene.picture.size().rows) else {
             return Ok(None);
         };
+        if self.is_to_scroll(scene.profile, shift) {
+            self.scroll(scene, shift)?;
+            return Ok(Some(shift));
+        }
         let (deletion, insertion) = (Op::DeleteLines(shift.count), Op::InsertLines(shift.count));
         if !scene.profile.has(deletion) || !scene.profile.has(insertion) {
             return Ok(None);
         }
         self.shift_rows(scene, shift)?;
         Ok(Some(shift))
+    }
+
+    // Whether a shift is made by a scroll: the terminal can, and it is the cheaper way.
+    fn is_to_scroll(&self, profile: &Profile, shift: Shift) -> bool
+        ensures { result ≡ true → IsScroll profile.now shift }
+    {
+        let size = profile.size();
+        is_scrolled(profile.prices(), self.spot, shift, size.rows) && can_scroll(profile, shift)
+    }
+}
+
+// Whether all rows move, and the terminal can scroll so.
+fn can_scroll(profile: &Profile, shift: Shift) -> bool
+    ensures { result ≡ true → IsScroll profile.now shift }
+{
+    let size = profile.size();
+    if shift.top > 0 || shift.end != size.rows {
+        return false;
+    }
+    if shift.up {
+        profile.has(Op::ScrollUp(shift.count))
+    } else {
+        profile.has(Op::ScrollDown(shift.count))
     }
 }
 

@@ -11,13 +11,16 @@ ghost use Rattle.scr_plan.specs.Code.Scenes.{IsScene, IsUpdate};
 ghost use Rattle.scr_plan.specs.Code.Planning.{AreChanges};
 ghost use Rattle.scr_memory.specs.Memories.{is_known};
 
-use crate::runs::room_for;
+use crate::runs::{Runs, room_for};
 use crate::scenes::{Scene, Update};
 use crate::strokes::Draft;
 use scr_cells::{NoMemory, Pen, Size};
 use scr_prices::{RowChange, Run};
 use scr_term::{Op, Spot, blank_laws};
 use std::alloc::Global;
+
+// Room for the operations that usually lead to a place: the counted repaint makes them, and keeps none.
+const FEW_OPERATIONS: usize = 16;
 
 // The short plan of what differs from what is remembered.
 #[inline(never)]
@@ -44,7 +47,7 @@ pub(crate) fn short_changes(
     };
     let mut runs = draft.move_what_stays(alloc, update, changes)?;
     let moved = !draft.ops.is_empty();
-    draft.make_room(&runs)?;
+    draft.make_room(runs.as_slice())?;
     draft.wipe_if_worth(scene, &mut runs)?;
     draft.paint_all(alloc, scene, &mut runs, moved)?;
     Ok(draft)
@@ -57,9 +60,9 @@ pub(crate) fn short_anew(alloc: Global, scene: &Scene<'_>) -> Result<Draft, NoMe
 {
     blank_laws();
     let _profile = scene.profile.size();
-    let mut runs = Vec::new(alloc);
+    let mut runs = Runs::new(alloc);
     scene.add_rows(0, &mut runs)?;
-    let mut ops = Vec::with_capacity(alloc, room_for(&runs))?;
+    let mut ops = Vec::with_capacity(alloc, room_for(runs.as_slice()))?;
     scene.painter.reset(&mut ops)?;
     ops.push(Op::Clear)?;
     let mut draft = Draft {
@@ -74,7 +77,7 @@ pub(crate) fn short_anew(alloc: Global, scene: &Scene<'_>) -> Result<Draft, NoMe
 }
 
 impl Draft {
-    // Makes room for the operations of runs.
+    // Makes room for the operations of runs, and for what leads to a place behind them.
     fn make_room(&mut self, runs: &[Run]) -> Result<(), NoMemory>
         ensures ops { OnOk result (self.new.ops.items ≡ self.old.ops.items) }
         ensures keeps { OnOk result (self.new.keeps ≡ self.old.keeps) }
@@ -82,7 +85,8 @@ impl Draft {
         ensures spot { OnOk result (self.new.spot ≡ self.old.spot) }
         ensures pen { OnOk result (self.new.pen ≡ self.old.pen) }
     {
-        self.ops.reserve(room_for(runs))?;
+        self.ops
+            .reserve(room_for(runs).saturating_add(FEW_OPERATIONS))?;
         Ok(())
     }
 

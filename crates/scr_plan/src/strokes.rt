@@ -139,8 +139,7 @@ impl Draft {
         let (_, pen) = scene.seen_in(cells, column);
         let next = scene.alike_end(cells, column, end);
         self.begin_unless_there(scene, &Target { row, column, pen })?;
-        self.put_each(scene, row, column, next)?;
-        Ok(next)
+        self.put_some(scene, row, column, next)
     }
 
     // Adds the characters of a row from the cursor's column to `end`, all of which are seen with
@@ -265,6 +264,7 @@ impl Draft {
     #[inline(always)]
     pub(crate) fn keep(&mut self, op: Op) -> Result<(), NoMemory>
         ensures ops { OnOk result (self.old.keeps ≡ true → self.new.ops.items ≡ self.old.ops.items ++ op ∷ []) }
+        ensures left { OnOk result (self.old.keeps ≡ false → self.new.ops.items ≡ self.old.ops.items) }
         ensures keeps { OnOk result (self.new.keeps ≡ self.old.keeps) }
         ensures bytes { OnOk result (self.new.bytes ≡ self.old.bytes) }
         ensures pen { OnOk result (self.new.pen ≡ self.old.pen) }

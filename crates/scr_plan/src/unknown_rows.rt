@@ -10,11 +10,11 @@ ghost use Rattle.scr_plan.specs.Code.Scenes.{IsScene, IsUpdate};
 
 use crate::joined_changes::room_of;
 use crate::joining::price_of;
+use crate::runs::Runs;
 use crate::scenes::{Scene, Update};
 use crate::strokes::Draft;
 use scr_cells::{Look, NoMemory, Pen, grid_laws};
 use scr_memory::{Memory, memory_runs};
-use scr_prices::Run;
 use scr_term::{Op, Profile, Spot, profiles_have, run_laws};
 use std::alloc::Global;
 
@@ -33,7 +33,7 @@ pub(crate) fn short_partly(alloc: Global, update: &Update<'_>) -> Result<Option<
     if !draft.wipe_unknown(scene, update.memory)? {
         return Ok(None);
     }
-    let mut runs = Vec::new(alloc);
+    let mut runs = Runs::new(alloc);
     find_unsettled(update, &mut runs)?;
     draft.paint_all(alloc, scene, &mut runs, false)?;
     Ok(Some(draft))
@@ -204,7 +204,7 @@ impl Draft {
 }
 
 // Finds the runs of all places that need painting once the unknown rows are blank.
-fn find_unsettled(update: &Update<'_>, runs: &mut Vec<Run>) -> Result<(), NoMemory>
+fn find_unsettled(update: &Update<'_>, runs: &mut Runs) -> Result<(), NoMemory>
     requires update { IsUpdate update.now }
     ensures { OnOk result (HasUnsettled update.now.scene.profile.now update.now.wanted.now.picture update.now.memory.now runs.new.items update.now.wanted.now.picture.rows) }
 {
@@ -216,7 +216,7 @@ fn find_unsettled(update: &Update<'_>, runs: &mut Vec<Run>) -> Result<(), NoMemo
 }
 
 // Finds those of one row.
-fn find_unsettled_in(update: &Update<'_>, row: u32, runs: &mut Vec<Run>) -> Result<(), NoMemory>
+fn find_unsettled_in(update: &Update<'_>, row: u32, runs: &mut Runs) -> Result<(), NoMemory>
     requires update { IsUpdate update.now }
     requires row { row < update.now.wanted.now.picture.rows }
     ensures kept { OnOk result (KeepsRuns runs.old.items runs.new.items) }

@@ -8,6 +8,7 @@ ghost use Rattle.scr_plan.specs.Code.Drafts.{Covers, KeepsAll, KeepsEvery, Leave
 ghost use Rattle.scr_prices.specs.declared.runs.Run.{Run};
 ghost use Rattle.scr_plan.specs.Code.Scenes.{IsScene};
 
+use crate::runs::Runs;
 use crate::scenes::Scene;
 use crate::strokes::Draft;
 use scr_cells::{Look, NoMemory, Pen, grid_laws};
@@ -22,7 +23,7 @@ impl Draft {
         &mut self,
         alloc: Global,
         scene: &Scene<'_>,
-        runs: &mut Vec<Run>,
+        runs: &mut Runs,
         moved: bool,
     ) -> Result<(), NoMemory>
         requires scene { IsScene scene.now }
@@ -38,7 +39,7 @@ impl Draft {
         &mut self,
         alloc: Global,
         scene: &Scene<'_>,
-        runs: &mut Vec<Run>,
+        runs: &mut Runs,
         moved: bool,
     ) -> Result<(), NoMemory>
         requires scene { IsScene scene.now }
@@ -48,7 +49,7 @@ impl Draft {
             return self.visit_rest(scene, runs);
         }
         let chooser = Chooser::new(scene.profile, scene.picture);
-        let stops = cheapest_order(alloc, &chooser, &self.cursor(), runs, moved)?;
+        let stops = cheapest_order(alloc, &chooser, &self.cursor(), runs.as_slice(), moved)?;
         self.visit_all(scene, runs, &stops)
     }
 
@@ -56,7 +57,7 @@ impl Draft {
     fn visit_all(
         &mut self,
         scene: &Scene<'_>,
-        runs: &mut Vec<Run>,
+        runs: &mut Runs,
         stops: &[Stop],
     ) -> Result<(), NoMemory>
         requires scene { IsScene scene.now }
@@ -70,7 +71,7 @@ impl Draft {
     fn visit_each(
         &mut self,
         scene: &Scene<'_>,
-        runs: &mut Vec<Run>,
+        runs: &mut Runs,
         stops: &[Stop],
     ) -> Result<(), NoMemory>
         requires scene { IsScene scene.now }
@@ -78,7 +79,7 @@ impl Draft {
     {
         let _size = scene.picture.size();
         for stop in stops {
-            self.visit_at(scene, runs, stop)?;
+            self.visit_at(scene, runs.as_mut_slice(), stop)?;
         }
         Ok(())
     }
@@ -100,7 +101,7 @@ impl Draft {
     }
 
     // Visits each run that is left, from the last.
-    fn visit_rest(&mut self, scene: &Scene<'_>, runs: &mut Vec<Run>) -> Result<(), NoMemory>
+    fn visit_rest(&mut self, scene: &Scene<'_>, runs: &mut Runs) -> Result<(), NoMemory>
         requires scene { IsScene scene.now }
         ensures { OnOk result (Leaves scene.now.profile.now scene.now.picture.now runs.old.items [] self.old self.new) }
     {

@@ -4,6 +4,7 @@ ghost use Rattle.scr_plan.specs.Code.Drafts.{KeepsAbove, KeepsAll, LearnsFrom, L
 ghost use Rattle.scr_prices.specs.declared.runs.Run.{Run};
 ghost use Rattle.scr_plan.specs.Code.Scenes.{IsScene};
 
+use crate::runs::Runs;
 use crate::scenes::Scene;
 use crate::strokes::Draft;
 use scr_cells::{Look, NoMemory, Pen, grid_laws};
@@ -17,26 +18,20 @@ impl Draft {
     pub(crate) fn wipe_if_worth(
         &mut self,
         scene: &Scene<'_>,
-        runs: &mut Vec<Run>,
+        runs: &mut Runs,
     ) -> Result<(), NoMemory>
         requires scene { IsScene scene.now }
         ensures { OnOk result (Leaves scene.now.profile.now scene.now.picture.now runs.old.items runs.new.items self.old self.new) }
     {
         let _size = scene.picture.size();
-        match chosen_wiping(scene, self, runs) {
+        match chosen_wiping(scene, self, runs.as_slice()) {
             Some(wiping) => self.wipe(scene, wiping.top, wiping.by, runs),
             None => Ok(()),
         }
     }
 
     // Erases all rows from `top` on, and finds the runs there again.
-    fn wipe(
-        &mut self,
-        scene: &Scene<'_>,
-        top: u32,
-        by: Op,
-        runs: &mut Vec<Run>,
-    ) -> Result<(), NoMemory>
+    fn wipe(&mut self, scene: &Scene<'_>, top: u32, by: Op, runs: &mut Runs) -> Result<(), NoMemory>
         requires scene { IsScene scene.now }
         ensures { OnOk result (Leaves scene.now.profile.now scene.now.picture.now runs.old.items runs.new.items self.old self.new) }
     {
@@ -127,11 +122,11 @@ fn chosen_wiping(scene: &Scene<'_>, draft: &Draft, runs: &[Run]) -> Option<Wipin
 }
 
 // Drops the runs of the rows from `top` on. The runs are by rows.
-pub(crate) fn drop_from(runs: &mut Vec<Run>, top: u32)
+pub(crate) fn drop_from(runs: &mut Runs, top: u32)
     ensures { KeepsAbove top runs.old.items runs.new.items }
 {
     let mut kept = runs.len();
-    while kept > 0 && row_of(runs, kept - 1) >= top {
+    while kept > 0 && row_of(runs.as_slice(), kept - 1) >= top {
         kept -= 1;
     }
     runs.truncate(kept);

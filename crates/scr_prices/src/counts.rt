@@ -1,8 +1,9 @@
 //! About what the places cost that differ between two rows of looks.
 
 use crate::ways::Chooser;
-use scr_cells::Look;
-use scr_term::Op;
+use scr_cells::{Look, look_numbers};
+use scr_term::{FAR, Op};
+use std::simd::prelude::*;
 
 // How a row of looks becomes another: how many places differ, how many of these become blank, and
 // how many places are not blank then.
@@ -13,24 +14,73 @@ pub(crate) struct Counts {
     filled: u32,
 }
 
-impl Counts {
-    // Of the looks before and after.
-    pub(crate) fn of(before: &[Look], after: &[Look]) -> Counts {
-        let mut differing = 0u32;
-        let mut blanked = 0u32;
-        let mut filled = 0u32;
-        for (old, new) in before.iter().zip(after.iter()) {
-            let is_other = *old != *new;
-            let is_filled = *new != Look::blank();
-            differing = differing.wrapping_add(u32::from(is_other));
-            blanked = blanked.wrapping_add(u32::from(is_other & !is_filled));
-            filled = filled.wrapping_add(u32::from(is_filled));
+// Eight places at a time: how often each lane's place did not differ, was blank then, or both. A lane
+// counts down.
+#[derive(Clone, Copy)]
+struct Lanes {
+    same: i32x8,
+    blank: i32x8,
+    both: i32x8,
+}
+
+impl Lanes {
+    fn none() -> Lanes {
+        let none = i32x8::splat(0);
+        Lanes {
+            same: none,
+            blank: none,
+            both: none,
         }
+    }
+
+    // Adds eight places.
+    #[inline(always)]
+    fn add(&mut self, old: &[Look; 8], new: &[Look; 8]) {
+        let numbers = look_numbers(new);
+        let is_same = look_numbers(old).simd_eq(numbers);
+        let is_blank = look_numbers(&[Look::blank(); 8]).simd_eq(numbers);
+        self.same += is_same.to_simd();
+        self.blank += is_blank.to_simd();
+        self.both += (is_same & is_blank).to_simd();
+    }
+
+    // What was counted of so many places.
+    fn counts(self, places: usize) -> Counts {
+        let places = places.min(FAR as usize) as u32;
+        let same = self.same.reduce_sum().unsigned_abs();
+        let blank = self.blank.reduce_sum().unsigned_abs();
+        let both = self.both.reduce_sum().unsigned_abs();
         Counts {
-            differing,
-            blanked,
-            filled,
+            differing: places.saturating_sub(same),
+            blanked: blank.saturating_sub(both),
+            filled: places.saturating_sub(blank),
         }
+    }
+}
+
+impl Counts {
+    // Of the looks before and after: eight places at a time, and those that are left one by one.
+    pub(crate) fn of(before: &[Look], after: &[Look]) -> Counts {
+        let (olds, old_rest) = before.as_chunks::<8>();
+        let (news, new_rest) = after.as_chunks::<8>();
+        let mut lanes = Lanes::none();
+        for (old, new) in olds.iter().zip(news.iter()) {
+            lanes.add(old, new);
+        }
+        let mut counts = lanes.counts(olds.len().min(news.len()).saturating_mul(8));
+        for (old, new) in old_rest.iter().zip(new_rest.iter()) {
+            counts.add(*old, *new);
+        }
+        counts
+    }
+
+    // Adds a place.
+    fn add(&mut self, old: Look, new: Look) {
+        let is_other = old != new;
+        let is_filled = new != Look::blank();
+        self.differing = self.differing.wrapping_add(u32::from(is_other));
+        self.blanked = self.blanked.wrapping_add(u32::from(is_other & !is_filled));
+        self.filled = self.filled.wrapping_add(u32::from(is_filled));
     }
 
     // About what the places that differ cost: those that become blank may be erased together.

@@ -67,12 +67,12 @@ fn motion_along(prices: &Prices, from: (u32, u32), to: (u32, u32), price: u32) -
 // What leads from one row to another, a count, or the row at once if that is cheaper, and its price.
 #[inline(always)]
 fn cheapest_rows(prices: &Prices, from: u32, to: u32) -> (Op, u32) {
-    let count = by_rows(from, to);
-    let (by_count, at_once) = (prices.of(count), prices.of(Op::Line(to)));
+    let by = By::rows(from, to);
+    let (by_count, at_once) = (by.price(prices), prices.of(Op::Line(to)));
     if at_once < by_count {
         (Op::Line(to), at_once)
     } else {
-        (count, by_count)
+        (by.cheaper(prices), by_count)
     }
 }
 
@@ -122,15 +122,15 @@ impl Motion {
         if from == to {
             return if price == 0 { Some(self) } else { None };
         }
-        let count = by_columns(from, to);
-        if price == prices.of(count) {
-            return Some(self.with_last(count, 1));
+        let by = By::columns(from, to);
+        if price == by.price(prices) {
+            return Some(self.with_last(by.cheaper(prices), 1));
         }
         if price == price_of_singles(prices, from, to) {
             return Some(self.with_last(Op::Left(1), from.saturating_sub(to)));
         }
         if price == price_from_first(prices, to) {
-            return Some(self.from_first(to));
+            return Some(self.from_first(prices, to));
         }
         if price == prices.of(Op::Column(to)) {
             return Some(self.with_last(Op::Column(to), 1));
@@ -140,13 +140,13 @@ impl Motion {
 
     // With what leads to the first column, and right from there.
     #[inline(always)]
-    fn from_first(self, column: u32) -> Motion {
+    fn from_first(self, prices: &Prices, column: u32) -> Motion {
         if column == 0 {
             return self.with_last(Op::Return, 1);
         }
         Motion {
             second: Some(Op::Return),
-            ..self.with_last(Op::Right(column), 1)
+            ..self.with_last(By::columns(0, column).cheaper(prices), 1)
         }
     }
 }
@@ -167,25 +167,66 @@ pub(crate) fn price_from_first(prices: &Prices, column: u32) -> u32 {
     if column == 0 {
         return first;
     }
-    first.saturating_add(prices.of(Op::Right(column)))
+    first.saturating_add(By::columns(0, column).price(prices))
 }
 
-// Up or down, from one row to another.
-#[inline(always)]
-pub(crate) fn by_rows(from: u32, to: u32) -> Op {
-    if from < to {
-        Op::Down(to - from)
-    } else {
-        Op::Up(from - to)
+// A motion by a count, and the one with a number that it may be in place of, if it is by one.
+#[derive(Clone, Copy)]
+pub(crate) struct By {
+    count: u32,
+    op: Op,
+    numbered: Op,
+}
+
+impl By {
+    // Up or down, from one row to another.
+    #[inline(always)]
+    pub(crate) fn rows(from: u32, to: u32) -> By {
+        if from < to {
+            By::new(to - from, Op::Down(to - from), Op::DownBy(1))
+        } else {
+            By::new(from - to, Op::Up(from - to), Op::UpBy(1))
+        }
     }
-}
 
-// Left or right, from one column to another.
-#[inline(always)]
-pub(crate) fn by_columns(from: u32, to: u32) -> Op {
-    if from < to {
-        Op::Right(to - from)
-    } else {
-        Op::Left(from - to)
+    // Left or right, from one column to another.
+    #[inline(always)]
+    pub(crate) fn columns(from: u32, to: u32) -> By {
+        if from < to {
+            By::new(to - from, Op::Right(to - from), Op::RightBy(1))
+        } else {
+            By::new(from - to, Op::Left(from - to), Op::LeftBy(1))
+        }
+    }
+
+    #[inline(always)]
+    fn new(count: u32, op: Op, numbered: Op) -> By {
+        By {
+            count,
+            op,
+            numbered,
+        }
+    }
+
+    // Its price. By one it is that of the text with a number, if the text for one is dearer or is a
+    // line feed.
+    #[inline(always)]
+    pub(crate) fn price(self, prices: &Prices) -> u32 {
+        let price = prices.of(self.op);
+        if self.count == 1 {
+            price.min(prices.of(self.numbered))
+        } else {
+            price
+        }
+    }
+
+    // The operation of this price.
+    #[inline(always)]
+    fn cheaper(self, prices: &Prices) -> Op {
+        if self.price(prices) < prices.of(self.op) {
+            self.numbered
+        } else {
+            self.op
+        }
     }
 }

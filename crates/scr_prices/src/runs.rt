@@ -30,6 +30,19 @@ pub struct Run {
     pub how: How,
 }
 
+impl Default for Run {
+    /// No places.
+    fn default() -> Run {
+        Run {
+            row: 0,
+            start: 0,
+            end: 0,
+            pen: Pen::plain(),
+            how: How::Write,
+        }
+    }
+}
+
 impl Run {
     /// Its first place, with its pen.
     #[inline(always)]

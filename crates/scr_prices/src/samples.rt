@@ -34,7 +34,7 @@ impl<'a> Worth<'a> {
 
     /// Adds one more row, whose runs stand behind those of the rows before. Returns whether there
     /// are at least two rows, and all these cost enough.
-    pub fn is_enough(&mut self, runs: &[Run]) -> bool {
+    pub fn add_row(&mut self, runs: &[Run]) -> bool {
         let begun = self.runs.min(runs.len());
         let price = price_of_runs(&self.chooser, &runs[begun..]);
         self.price = self.price.saturating_add(price);
@@ -54,13 +54,22 @@ pub(crate) struct Distance {
     pub(crate) up: bool,
 }
 
-// A row that may be looked for, the first column in which it differs from what it showed, and the
-// byte that is wanted there.
+// A row that may be looked for, the first column in which it differs from what it showed, the byte
+// that is wanted there, and whether the row that comes was seen to be just what is wanted.
 #[derive(Clone, Copy)]
 struct Sample {
     row: u32,
     column: u32,
     byte: u8,
+    is_shown: bool,
+}
+
+// How many of the rows that are looked for a distance is right for, and for which: a bit for the
+// number of each.
+#[derive(Clone, Copy)]
+struct Votes {
+    count: u32,
+    which: u32,
 }
 
 // The rows that differ and are not wanted blank, and the first and the last row that differs. Not
@@ -99,7 +108,13 @@ impl Samples {
             return Ok(());
         }
         let byte = byte_at(cells, column);
-        self.found.push(Sample { row, column, byte })?;
+        let is_shown = false;
+        self.found.push(Sample {
+            row,
+            column,
+            byte,
+            is_shown,
+        })?;
         Ok(())
     }
 
@@ -108,35 +123,53 @@ impl Samples {
         self.found.len().min(MOST_SAMPLES as usize) as u32
     }
 
-    // One of the rows that are looked for: of all rows if they are not too many, or one from each of
-    // as many parts.
+    // The place of one of the rows that are looked for: of all rows if they are not too many, or one
+    // from each of as many parts.
     #[inline(always)]
-    fn sample(&self, number: u32) -> Option<Sample> {
+    fn place(&self, number: u32) -> usize {
         let all = self.found.len();
         let number = number as usize;
-        let place = if all <= MOST_SAMPLES as usize {
-            number
-        } else {
-            number
-                .saturating_mul(2)
-                .saturating_add(1)
-                .saturating_mul(all)
-                / (2 * MOST_SAMPLES as usize)
-        };
-        self.found.get(place).copied()
+        if all <= MOST_SAMPLES as usize {
+            return number;
+        }
+        number
+            .saturating_mul(2)
+            .saturating_add(1)
+            .saturating_mul(all)
+            / (2 * MOST_SAMPLES as usize)
     }
 
-    // How many of these rows show, so many rows further down or up, what is wanted in them; or any
-    // smaller number if these are no more than `least`.
-    fn votes<P: RowPrices>(&self, prices: &P, distance: Distance, least: u32) -> u32 {
+    // By how many rows most of these rows moved, if any did. They are marked then.
+    pub(crate) fn most_common<P: RowPrices>(&mut self, prices: &P) -> Option<Distance> {
+        let (distance, votes) = most_votes(prices, self)?;
+        for number in 0..self.count() {
+            let place = self.place(number);
+            if votes.which.wrapping_shr(number) % 2 == 1 && place < self.found.len() {
+                self.found[place].is_shown = true;
+            }
+        }
+        Some(distance)
+    }
+
+    // Whether the sample with a number is of a row and marked; `None` if it is not of this row.
+    pub(crate) fn mark_of(&self, number: usize, row: u32) -> Option<bool> {
+        match self.found.get(number) {
+            Some(sample) if sample.row == row => Some(sample.is_shown),
+            _ => None,
+        }
+    }
+
+    // Which of these rows show, so many rows further down or up, what is wanted in them; or any
+    // fewer of them if these are no more than `least`.
+    fn votes<P: RowPrices>(&self, prices: &P, distance: Distance, least: u32) -> Votes {
         let count = self.count();
-        let mut votes = 0u32;
+        let mut votes = Votes::none();
         for number in 0..count {
-            if votes.saturating_add(count - number) <= least {
+            if votes.count.saturating_add(count - number) <= least {
                 return votes;
             }
             if self.is_vote(prices, distance, number) {
-                votes = votes.saturating_add(1);
+                votes.add(number);
             }
         }
         votes
@@ -145,12 +178,12 @@ impl Samples {
     // Whether the row at this distance shows what is wanted in a row.
     #[inline(always)]
     fn is_vote<P: RowPrices>(&self, prices: &P, distance: Distance, number: u32) -> bool {
-        let Some(sample) = self.sample(number) else {
+        let Some(sample) = self.found.get(self.place(number)) else {
             return false;
         };
         match distance.source(sample.row) {
             Some(source) if self.first <= source && source <= self.last => {
-                is_alike(prices, prices.looks(source), &sample)
+                is_alike(prices, prices.looks(source), sample)
             }
             _ => false,
         }
@@ -186,10 +219,21 @@ fn is_alike<P: RowPrices>(prices: &P, looks: &[Look], sample: &Sample) -> bool {
         && prices.is_shown(sample.row, looks)
 }
 
-// By how many rows most of the samples moved, if any did: on a tie the fewest rows, and then
-// down. The terminal can insert and delete as many lines.
-pub(crate) fn most_votes<P: RowPrices>(prices: &P, samples: &Samples) -> Option<Distance> {
-    let chooser = prices.chooser();
+impl Votes {
+    fn none() -> Votes {
+        Votes { count: 0, which: 0 }
+    }
+
+    // Adds the row with a number.
+    fn add(&mut self, number: u32) {
+        self.count = self.count.saturating_add(1);
+        self.which |= 1u32.wrapping_shl(number);
+    }
+}
+
+// By how many rows most of the samples moved, if any did, and which of them: on a tie the fewest
+// rows, and then down. The terminal can move as many lines so.
+fn most_votes<P: RowPrices>(prices: &P, samples: &Samples) -> Option<(Distance, Votes)> {
     let count = samples.count();
     let mut best = None;
     let mut most = 0u32;
@@ -197,17 +241,16 @@ pub(crate) fn most_votes<P: RowPrices>(prices: &P, samples: &Samples) -> Option<
         if most >= count {
             return best;
         }
-        let distance = less.saturating_add(1);
-        if can_shift(chooser.prices, distance) {
-            for up in [false, true] {
-                let distance = Distance {
-                    count: distance,
-                    up,
-                };
+        for up in [false, true] {
+            let distance = Distance {
+                count: less.saturating_add(1),
+                up,
+            };
+            if can_shift(prices.chooser().prices, distance) {
                 let votes = samples.votes(prices, distance, most);
-                if votes > most {
-                    most = votes;
-                    best = Some(distance);
+                if votes.count > most {
+                    most = votes.count;
+                    best = Some((distance, votes));
                 }
             }
         }
@@ -215,7 +258,22 @@ pub(crate) fn most_votes<P: RowPrices>(prices: &P, samples: &Samples) -> Option<
     best
 }
 
+// Whether the terminal can move rows so, some of them or all.
+pub(crate) fn can_shift(prices: &Prices, distance: Distance) -> bool {
+    can_move_lines(prices, distance.count) || can_scroll(prices, distance)
+}
+
 // Whether the terminal can insert and delete so many lines.
-pub(crate) fn can_shift(prices: &Prices, count: u32) -> bool {
+pub(crate) fn can_move_lines(prices: &Prices, count: u32) -> bool {
     prices.of(Op::InsertLines(count)) < FAR && prices.of(Op::DeleteLines(count)) < FAR
+}
+
+// Whether the terminal can scroll so.
+pub(crate) fn can_scroll(prices: &Prices, distance: Distance) -> bool {
+    let scroll = if distance.up {
+        Op::ScrollUp(distance.count)
+    } else {
+        Op::ScrollDown(distance.count)
+    };
+    prices.of(scroll) < FAR
 }

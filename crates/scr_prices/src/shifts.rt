@@ -5,7 +5,8 @@ use crate::blanks::is_blank;
 use crate::counts::Counts;
 use crate::motions::cheapest_motion;
 use crate::rows::{RowChange, RowPrices};
-use crate::samples::{Distance, Samples, can_shift, most_votes};
+use crate::samples::{Distance, Samples, can_move_lines, can_scroll, can_shift};
+use crate::scrolls::price_of_scroll;
 use crate::slides::are_blank;
 use crate::ways::Cursor;
 use scr_cells::NoMemory;
@@ -42,25 +43,51 @@ pub fn cheapest_shift<P: RowPrices>(
     cursor: &Cursor,
     changes: &[RowChange],
 ) -> Result<Option<Shift>, NoMemory> {
-    let samples = Samples::of(alloc, prices.chooser(), changes)?;
-    let Some(distance) = most_votes(prices, &samples) else {
+    let mut samples = Samples::of(alloc, prices.chooser(), changes)?;
+    let Some(distance) = samples.most_common(prices) else {
         return Ok(None);
     };
     let last = with_blank_rows(prices, samples.last);
+    let (first, last) = with_all_rows(prices, distance, samples.first, last);
     let blocks = Blocks {
         prices,
         cursor: *cursor,
         distance,
-        first: samples.first,
+        first,
         last,
     };
-    let lines = Lines::of(alloc, &blocks, changes)?;
+    let lines = Lines::of(alloc, &blocks, changes, &samples)?;
     Ok(blocks.best(&lines))
 }
 
 /// Whether the terminal can shift any rows.
 pub fn can_shift_some(prices: &Prices) -> bool {
-    can_shift(prices, 1) || can_shift(prices, 2)
+    for count in [1, 2] {
+        for up in [false, true] {
+            if can_shift(prices, Distance { count, up }) {
+                return true;
+            }
+        }
+    }
+    false
+}
+
+// The first and the last row of the screen if the terminal can scroll so and at least half of its
+// rows lie between these two, else these two.
+fn with_all_rows<P: RowPrices>(
+    prices: &P,
+    distance: Distance,
+    first: u32,
+    last: u32,
+) -> (u32, u32) {
+    let chooser = prices.chooser();
+    let rows = chooser.picture.size().rows;
+    let between = last.saturating_sub(first);
+    if can_scroll(chooser.prices, distance) && between >= rows / 2 {
+        (0, rows.saturating_sub(1))
+    } else {
+        (first, last)
+    }
 }
 
 // The last row of the screen if all rows below one are blank, else that row.
@@ -88,21 +115,25 @@ struct Line {
 struct Lines(Vec<Line>);
 
 impl Lines {
-    // Of the rows that blocks may lie in, of which these differ.
+    // Of the rows that blocks may lie in, of which these differ, and samples of these.
     fn of<P: RowPrices>(
         alloc: Global,
         blocks: &Blocks<'_, P>,
         changes: &[RowChange],
+        samples: &Samples,
     ) -> Result<Lines, NoMemory> {
         let (first, end) = (blocks.first, blocks.last.saturating_add(1));
         let count = end.saturating_sub(first).saturating_add(1);
         let mut lines = Vec::with_capacity(alloc, count as usize)?;
         let mut saved = 0i64;
         let mut next = 0usize;
+        let mut sample = 0usize;
         for row in first..end {
             let change = change_in(changes, next, row);
             next = next.saturating_add(usize::from(change.is_some()));
-            let (gain, fresh) = blocks.savings(row, change);
+            let mark = samples.mark_of(sample, row);
+            sample = sample.saturating_add(usize::from(mark.is_some()));
+            let (gain, fresh) = blocks.savings(row, change, mark.unwrap_or(false));
             lines.push(Line { gain, saved })?;
             saved = saved.wrapping_add(fresh);
         }
@@ -173,11 +204,36 @@ impl<P: RowPrices> Blocks<'_, P> {
 
     // The best block of those that save so much.
     fn best_from(&self, lines: &Lines, least: i64) -> Best {
-        if self.distance.up {
+        let best = if !can_move_lines(self.prices.chooser().prices, self.distance.count) {
+            Best::none(least)
+        } else if self.distance.up {
             self.best_up(lines, least)
         } else {
             self.best_down(lines, least)
+        };
+        self.or_all(best, lines)
+    }
+
+    // The better of the best block and all rows of the screen, if all of these are compared.
+    fn or_all(&self, best: Best, lines: &Lines) -> Best {
+        let rows = self.prices.chooser().picture.size().rows as usize;
+        let count = self.distance.count as usize;
+        if self.first > 0 || lines.count() != rows || count > rows {
+            return best;
         }
+        let (first, end) = if self.distance.up {
+            (0, rows - count)
+        } else {
+            (count, rows)
+        };
+        let mut sum = lines
+            .saved(rows)
+            .wrapping_sub(lines.saved(end))
+            .wrapping_add(lines.saved(first));
+        for place in first..end {
+            sum = sum.wrapping_add(lines.gain(place));
+        }
+        self.better(best, 0, rows, sum)
     }
 
     // The best block that moves up. For each last row that gets another's looks, the first one is
@@ -220,16 +276,17 @@ impl<P: RowPrices> Blocks<'_, P> {
         best
     }
 
-    // What a row that differs so, or not, saves by being painted over the row that comes there, and over
-    // blanks. Where that row is just what is wanted, the places that differ are counted.
-    fn savings(&self, row: u32, change: Option<&RowChange>) -> (i64, i64) {
+    // What a row saves by being painted over the row that comes there, and over blanks; the change
+    // is how it differs, if it does. Where that row is just what is wanted, as is seen here unless
+    // it is known, the places that differ are counted.
+    fn savings(&self, row: u32, change: Option<&RowChange>, is_known: bool) -> (i64, i64) {
         let prices = self.prices;
         let chooser = prices.chooser();
         let coming = match self.distance.source(row) {
             Some(source) => prices.looks(source),
             None => &[],
         };
-        if prices.is_shown(row, coming) {
+        if is_known || prices.is_shown(row, coming) {
             let counts = Counts::of(prices.looks(row), coming);
             let cost = i64::from(counts.price(chooser));
             return (cost, cost - i64::from(counts.price_of_filled(chooser)));
@@ -284,15 +341,25 @@ impl<P: RowPrices> Blocks<'_, P> {
         best
     }
 
-    // The price of a shift: of the turn to a plain pen, and of its motions and operations.
+    // The price of a shift, by lines or as a scroll: of the turn to a plain pen, and of its motions
+    // and operations.
     fn price_of_shift(&self, shift: Shift) -> u32 {
-        let turn = self.prices.chooser().price_of_reset(self.cursor.pen);
+        let chooser = self.prices.chooser();
+        let rows = chooser.picture.size().rows;
+        let scroll = price_of_scroll(chooser.prices, self.cursor.spot, shift, rows);
+        chooser
+            .price_of_reset(self.cursor.pen)
+            .saturating_add(self.price_by_lines(shift).min(scroll))
+    }
+
+    // The price of the motions and operations of a shift by lines.
+    fn price_by_lines(&self, shift: Shift) -> u32 {
         let spot = self.cursor.spot;
         let inner = shift.end.saturating_sub(shift.count);
         let deleted = Op::DeleteLines(shift.count);
         let inserted = Op::InsertLines(shift.count);
         let is_last = shift.end >= self.prices.chooser().picture.size().rows;
-        let steps = if shift.up {
+        if shift.up {
             let first = self.price_of_step(spot, shift.top, deleted);
             if is_last {
                 first
@@ -307,8 +374,7 @@ impl<P: RowPrices> Blocks<'_, P> {
                 shift.top,
                 inserted,
             ))
-        };
-        turn.saturating_add(steps)
+        }
     }
 
     // The price of going to the first column of a row, and of an operation there.

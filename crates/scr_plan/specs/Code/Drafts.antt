@@ -59,6 +59,7 @@ IsRight profile picture paid first start waits draft = IsAimed profile (aim_of p
 pub record IsAdded (profile : ProfileView) (old new : Draft) (more : List Op) (spot : Spot) (pen : PenView) : Type 0 where
   pub keeps : new.keeps ≡ old.keeps
   pub ops : old.keeps ≡ true → new.ops.items ≡ old.ops.items ++ more
+  pub left : old.keeps ≡ false → new.ops.items ≡ old.ops.items
   pub bytes : All (λ op. has profile op ≡ true) more → new.bytes ≡ counted_up (old.bytes + length (all_bytes profile more))
   pub spot_is : new.spot ≡ spot
   pub pen_is : new.pen ≡ pen

@@ -1,5 +1,5 @@
 -- Making the joined repaint, row by row.
-use Rattle.std.specs.Prelude.{ℕ, ◌≡◌, ◌+◌, ◌-◌, ◌^◌, min, Bool, true, ◌<◌, ◌≤◌, List, All, drop, ◌++◌, length, Option, Some, None}
+use Rattle.std.specs.Prelude.{ℕ, ◌≡◌, ◌+◌, ◌-◌, ◌^◌, min, Bool, false, true, ◌<◌, ◌≤◌, List, All, drop, take, ◌++◌, length, Option, Some, None}
 use Rattle.scr_cells.specs.LookViews.{LookView}
 use Rattle.scr_cells.specs.PenViews.{PenView}
 use Rattle.scr_cells.specs.PictureViews.{PictureView}
@@ -25,7 +25,7 @@ abbrev pub counted_up : ℕ → ℕ
 counted_up n = min n (2 ^ 64 - 1)
 
 -- From this state these operations lead to one with this spot and this pen; counted and, where they are kept, kept after the first ones are
--- those of them that change something.
+-- those of them that change something. Where none is kept, the first ones are left.
 pub record IsJoining (profile : ProfileView) (stores : Bool) (first : List Op) (start : TerminalState) (all : List Op) (joining : Draft) : Type 0 where
   pub now : TerminalState
   pub run : runs profile start all ≡ Some now
@@ -35,21 +35,24 @@ pub record IsJoining (profile : ProfileView) (stores : Bool) (first : List Op) (
   pub bytes : joining.bytes ≡ counted_up (length (all_bytes profile (without_idle profile start all)))
   pub stored : joining.keeps ≡ stores
   pub ops : stores ≡ true → joining.ops.items ≡ first ++ without_idle profile start all
+  pub left : stores ≡ false → joining.ops.items ≡ first
 
 -- these operations more, from wherever the others came
 abbrev pub Continues : ProfileView → Draft → Draft → List Op → Type 0
 Continues profile old new more = (stores : Bool) (first : List Op) (start : TerminalState) (all : List Op) → IsJoining profile stores first start all old → IsJoining profile stores first start (all ++ more) new
 
--- no more is counted than what these operations more would be counted with, from wherever the others came
+-- No more is counted than what these operations more would be counted with, from wherever the others came. Where none is kept, the first ones
+-- are left.
 abbrev pub CountsAtMost : ProfileView → Draft → Draft → List Op → Type 0
 CountsAtMost profile old new more = (stores : Bool) (first : List Op) (start : TerminalState) (all : List Op) → IsJoining profile stores first start all old
-    → new.bytes ≤ counted_up (length (all_bytes profile (without_idle profile start (all ++ more))))
+    → (new.bytes ≤ counted_up (length (all_bytes profile (without_idle profile start (all ++ more))))) × (stores ≡ false → new.ops.items ≡ first)
 
--- the operations from one on are counted, and kept where that is asked for; they lead to this spot and this pen
+-- the operations from one on are counted, and kept where that is asked for, else dropped; they lead to this spot and this pen
 pub record IsCounted (profile : ProfileView) (old new : Draft) (begun : ℕ) (spot : Spot) (pen : PenView) : Type 0 where
   pub bytes : All (λ op. has profile op ≡ true) (drop begun old.ops.items) → new.bytes ≡ counted_up (old.bytes + length (all_bytes profile (drop begun old.ops.items)))
   pub keeps : new.keeps ≡ old.keeps
   pub ops : old.keeps ≡ true → new.ops.items ≡ old.ops.items
+  pub dropped : old.keeps ≡ false → new.ops.items ≡ take begun old.ops.items
   pub spot_is : new.spot ≡ spot
   pub pen_is : new.pen ≡ pen
 

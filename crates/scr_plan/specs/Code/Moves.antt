@@ -1,14 +1,15 @@
 -- Shifts of rows, and slides of a row's characters.
-use Rattle.std.specs.Prelude.{ℕ, ◌≡◌, ◌+◌, ◌<◌, ◌≤◌, Bool, true, List, [], length, Option, Some, None, IfSome, if◌then◌else◌}
+use Rattle.std.specs.Prelude.{ℕ, ◌≡◌, ◌+◌, ◌<◌, ◌≤◌, Bool, true, false, List, [], length, Option, Some, None, IfSome, if◌then◌else◌}
 use Rattle.scr_cells.specs.Grids.{grid_at, grid_of, rows_down, rows_up}
 use Rattle.scr_cells.specs.LookViews.{LookView, blank}
 use Rattle.scr_cells.specs.PictureViews.{PictureView}
 use Rattle.scr_term.specs.declared.operations.operation.Op.{Op}
+use Rattle.scr_term.specs.declared.operations.operation.Op.TheVariants.{ScrollDown, ScrollUp}
 use Rattle.scr_term.specs.declared.operations.operation.Spot.TheVariants.{At}
 use Rattle.scr_term.specs.Operations.Profiles.{ProfileView, abilities}
 use Rattle.scr_term.specs.Operations.States.{TerminalState, IsState}
 use Rattle.scr_term.specs.Operations.Steps.{runs}
-use Rattle.scr_term.specs.Operations.Texts.{all_bytes}
+use Rattle.scr_term.specs.Operations.Texts.{all_bytes, has}
 use Rattle.scr_plan.specs.Code.Drafts.{IsRight, in_runs}
 use Rattle.scr_plan.specs.Code.Joinings.{counted_up}
 use Rattle.scr_memory.specs.Memories.{MemoryView}
@@ -21,6 +22,13 @@ pub record IsShift (rows : ℕ) (shift : Shift) : Type 0 where
   pub some : 1 ≤ shift.count
   pub fewer : shift.top + shift.count < shift.end
   pub inside : shift.end ≤ rows
+
+-- all rows of the screen move, and the terminal can scroll by so many
+pub record IsScroll (profile : ProfileView) (shift : Shift) : Type 0 where
+  pub first : shift.top ≡ 0
+  pub last : shift.end ≡ profile.rows
+  pub up : shift.up ≡ true → has profile (ScrollUp shift.count) ≡ true
+  pub down : shift.up ≡ false → has profile (ScrollDown shift.count) ≡ true
 
 -- places of a row from a column on, and by how many of them they move
 pub record IsSlide (columns : ℕ) (slide : Slide) : Type 0 where

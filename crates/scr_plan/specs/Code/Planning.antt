@@ -1,4 +1,4 @@
--- Which columns a plan looks at.
+-- Which columns a plan looks at, and which rows differ there.
 use Rattle.std.specs.Prelude.{ℕ, ◌≡◌, ◌+◌, ◌<◌, ◌≤◌, ◌⊎◌, ◌++◌, ltb, false, true, zero, suc, length, List, Option, None, slice_index_or, if◌then◌else◌}
 use Rattle.scr_cells.specs.PictureViews.{PictureView}
 use Rattle.scr_term.specs.declared.operations.operation.Op.{Op}
@@ -33,18 +33,20 @@ pub record IsChange (profile : ProfileView) (picture : PictureView) (memory : Me
   pub first : differs profile picture memory (change.row, change.start) ≡ true
   pub outside : (c : ℕ) → (c < change.start) ⊎ (change.end ≤ c) → c < picture.columns → differs profile picture memory (change.row, c) ≡ false
 
--- the row after that of the change before the k-th; the row of the k-th, or an end if there is none
+-- the change with this number
 abbrev pub change_at : List RowChange → ℕ → RowChange
 change_at changes k = slice_index_or changes k (record { row = 0; start = 0; end = 0 })
 
+-- the row behind that of the change before the one with this number; the first row, for the first change
 abbrev pub row_after : List RowChange → ℕ → ℕ
 row_after changes zero = 0
 row_after changes (suc k) = (change_at changes k).row + 1
 
+-- the row of the change with this number; an end, if there is none
 abbrev pub row_at : List RowChange → ℕ → ℕ → ℕ
 row_at changes end k = if ltb k (length changes) then (change_at changes k).row else end
 
--- the rows before an end that differ, from the top: those between two of them do not
+-- these are the rows before an end that differ, from the top: no row between two of them does
 pub record AreChanges (profile : ProfileView) (picture : PictureView) (memory : MemoryView) (changes : List RowChange) (end : ℕ) : Type 0 where
   pub each : (k : ℕ) → k < length changes → IsChange profile picture memory (change_at changes k)
   pub order : (k : ℕ) → k < length changes → row_after changes k ≤ (change_at changes k).row

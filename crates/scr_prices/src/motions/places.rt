@@ -1,6 +1,6 @@
 //! What motions to a place cost, wherever the cursor is.
 
-use crate::motions::{by_columns, by_rows, price_from_first, price_of_singles};
+use crate::motions::{By, price_from_first, price_of_singles};
 use scr_term::{Op, Prices, Spot};
 
 // A place, and what does not depend on where the cursor comes from: the price of going to it at once
@@ -70,7 +70,7 @@ impl Place {
         if from == self.row {
             return 0;
         }
-        prices.of(by_rows(from, self.row)).min(self.to_row)
+        By::rows(from, self.row).price(prices).min(self.to_row)
     }
 
     // The price of going to its column: by a count, in single steps, or wherever the cursor is in the
@@ -80,8 +80,8 @@ impl Place {
         if from == self.column {
             return 0;
         }
-        prices
-            .of(by_columns(from, self.column))
+        By::columns(from, self.column)
+            .price(prices)
             .min(price_of_singles(prices, from, self.column))
             .min(self.to_column)
     }

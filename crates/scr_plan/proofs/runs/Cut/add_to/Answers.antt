@@ -12,6 +12,6 @@ loop-run-preserved c =
       cut = c.next.ensures.cut;
       same = same_row start old new c.loop-run.invariant.same c.next.ensures.same;
       from = omega (arith, c.loop-run.invariant.from, cuts.more);
-      kept = λ place e. in_more c.loop-run.runs.items _ c.push.new.self.items c.in_ok-push.ensures.items place (c.loop-run.invariant.kept place e);
-      has = cut_more start old new c.in-Some.run' c.loop-run.runs.items c.push.new.self.items c.loop-run.invariant.same cuts c.in_ok-push.ensures.items c.loop-run.invariant.has;
+      kept = λ place e. in_more c.loop-run.runs.items _ c.push.new.self.items c.in_ok-push.ensures.ok place (c.loop-run.invariant.kept place e);
+      has = cut_more start old new c.in-Some.run' c.loop-run.runs.items c.push.new.self.items c.loop-run.invariant.same cuts c.in_ok-push.ensures.ok c.loop-run.invariant.has;
     }

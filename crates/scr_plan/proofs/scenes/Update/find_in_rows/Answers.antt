@@ -1,4 +1,5 @@
-use Rattle.std.proofs.Common.{arith, length, sym, subst, ℕ, ◌+◌, Vec, Global, ◌≡◌, ◌<◌, ◌≤◌}
+use Rattle.std.proofs.Common.{arith, length, sym, subst, ℕ, ◌+◌, List, ap, false, nat_le, nat_lt, ◌∙◌, ◌&&◌, ◌≡◌, ◌<◌, ◌≤◌}
+use Rattle.std.proofs.lemmas.Bool.Decides.{nat_tests}
 use Rattle.scr_plan.specs.Code.Drafts.{HasChangesIn, KeepsRuns, in_runs}
 use Rattle.scr_plan.proofs.PlainLaws.{not_in}
 use Rattle.scr_prices.specs.declared.runs.Run.{Run}
@@ -21,11 +22,14 @@ returns-clause-has c r from before high =
     walked_all profile picture memory c.args.changes.now picture.rows c.requires.changes (λ r. c.args.rows.0 ≤ r → r < c.args.rows.1 → HasChangesIn profile picture memory runs r) (λ r same _ _. has_same profile picture memory runs r same)
     (λ r below. has r (let last : length c.args.changes.now ≡ c.loop-change.change-index = omega (arith, c.loop-change-test.false, c.loop-change.auto.change-index-end) in subst (λ n. r < row_after c.args.changes.now n) last below)) r high from before
 
+not_among : (from end row : ℕ) → (nat_le from row && nat_lt row end) ≡ false → from ≤ row → row < end → ⊥
+not_among from end row outside low high = grind (arith, nat_tests)
+
 -- as far as the loop has come, with these runs
-abbrev IsInvariant : goal.Joined-is_among → Vec Run Global → Type 0
+abbrev IsInvariant : goal.Joined-is_among → List Run → Type 0
 IsInvariant c runs = record {
-  kept : KeepsRuns c.args.runs.now.items runs.items;
-  has : (r : ℕ) → r < row_after c.args.changes.now (c.loop-change.change-index + 1) → c.args.rows.0 ≤ r → r < c.args.rows.1 → HasChangesIn c.args.self.now.scene.profile.now c.args.self.now.wanted.now.picture c.args.self.now.memory.now runs.items r;
+  kept : KeepsRuns c.args.runs.now.items runs;
+  has : (r : ℕ) → r < row_after c.args.changes.now (c.loop-change.change-index + 1) → c.args.rows.0 ≤ r → r < c.args.rows.1 → HasChangesIn c.args.self.now.scene.profile.now c.args.self.now.wanted.now.picture c.args.self.now.memory.now runs r;
 }
 
 pub loop-change-preserved : goal.loop-change-preserved
@@ -42,15 +46,15 @@ loop-change-preserved c =
       | then-is_among+in_ok-find_in_row w ↦
           let found = w.in_ok-find_in_row.ensures in
           let new = w.find_in_row.new.runs.items in
-          subst (IsInvariant c) (sym w.runs-is) (record {
+          subst (IsInvariant c) (sym (ap (λ runs. runs.items) w.runs-is)) (record {
             kept = λ place e. found.kept place (before.kept place e);
             has = walked profile picture memory changes picture.rows c.requires.changes (λ r. c.args.rows.0 ≤ r → r < c.args.rows.1 → HasChangesIn profile picture memory new r) (λ r same _ _. has_same profile picture memory new r same)
                 k c.loop-change-test.true (λ r below from under c wide e. before.has r below from under c wide (not_in (in_runs old (r, c)) (in_runs new (r, c)) (found.kept (r, c)) e)) (λ _ _. found.has);
           })
       | else-is_among w ↦
-          subst (IsInvariant c) (sym w.runs-is) (record {
+          subst (IsInvariant c) (sym (ap (λ runs. runs.items) w.runs-is)) (record {
             kept = before.kept;
             has = walked profile picture memory changes picture.rows c.requires.changes (λ r. c.args.rows.0 ≤ r → r < c.args.rows.1 → HasChangesIn profile picture memory old r) (λ r same _ _. has_same profile picture memory old r same)
-                k c.loop-change-test.true before.has (λ from under. absurd (c.is_among.ensures w.if-is_among.false from under));
+                k c.loop-change-test.true before.has (λ from under. absurd (not_among c.args.rows.0 c.args.rows.1 _ (sym c.is_among.ensures ∙ w.if-is_among.false) from under));
           })
     ]

@@ -12,8 +12,8 @@ loop-change-preserved c =
     let found = c.in_ok-find_in_row.ensures in
     changes_found update.scene.profile.now update.wanted.now.picture update.memory.now c.args.changes.now update.wanted.now.picture.rows c.requires.changes c.loop-change.change-index c.loop-change-test.true c.loop-change.runs.items c.find_in_row.new.runs.items found.kept c.loop-change.invariant found.has
 
-pub returns-then-is_enough-clause-some : goal.returns-then-is_enough-clause-some
-returns-then-is_enough-clause-some c r below =
+pub returns-then-add_row-clause-some : goal.returns-then-add_row-clause-some
+returns-then-add_row-clause-some c r below =
     let update = c.args.self.now in
     let found = c.in_ok-find_in_row.ensures in
     changes_found update.scene.profile.now update.wanted.now.picture update.memory.now c.args.changes.now update.wanted.now.picture.rows c.requires.changes c.loop-change.change-index c.loop-change-test.true c.loop-change.runs.items c.find_in_row.new.runs.items found.kept c.loop-change.invariant found.has

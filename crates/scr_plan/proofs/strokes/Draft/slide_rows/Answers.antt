@@ -1,4 +1,4 @@
-use Rattle.std.proofs.Common.{arith, ◌==◌, ◌≡◌, false, ◌+◌}
+use Rattle.std.proofs.Common.{arith, get_or, ◌==◌, ◌≡◌, false, ◌+◌}
 use Rattle.std.proofs.lemmas.Bool.Decides.{nat_tests}
 use Rattle.scr_plan.proofs.MovedLaws.{rows_stay, settles_then, shown_kept}
 use Rattle.scr_plan.proofs.strokes.Draft.slide_rows.Goals as goal
@@ -9,7 +9,7 @@ loop-begun-preserved c =
     let profile = scene.profile.now in
     let picture = scene.picture.now in
     let grid = c.args.update.now.memory.now.state.grid in
-    let row = c.index.result.now.row in
+    let row = (get_or c.as_slice.result.now c.loop-begun.begun c.index-as_slice-begun.result).row in
     let from = c.loop-begun.from in
     let before = c.loop-begun.runs.items in
     let after = c.slide_row.new.runs.items in
