@@ -149,18 +149,37 @@ line_left part lines cells old k left =
       altered = ranges_with (λ r. same r i) (λ r. joined_by (columns_unlike (grid_at blank_cell old.picture.lines r) (part_cell part cells r) part.left part.columns)) old.altered;
     }
 
+-- nothing is copied where no row is
+pub copied_nowhere : GridLaws CellView → (part : Part) (lines : ℕ → Bool) (cells : ℕ → ℕ → CellView) (old : VirtualView) → IsGrid old.picture.rows old.picture.columns old.picture.lines
+    → ((r : ℕ) → is_copied part lines r ≡ false) → old ≡ part_copied part lines cells old
+unfolding part_copied
+copied_nowhere laws part lines cells old grid none =
+    let lines_are = laws.places blank_cell old.picture.rows old.picture.columns old.picture.lines grid
+    ∙ grid_same old.picture.rows old.picture.columns _ _ (λ r c h b.
+    sym (ap (λ t. cond (t && leb part.left c && ltb c (part.left + part.columns)) (cells (part.row + (r - part.top)) (part.column + (c - part.left))) (grid_at blank_cell old.picture.lines r c)) (none r))) in
+    let ranges = none_put (is_copied part lines) (λ _. joined (Some (part.left, part.left + part.columns - 1))) old.changed none in
+    let altered = none_put (is_copied part lines) (λ r. joined_by (columns_unlike (grid_at blank_cell old.picture.lines r) (part_cell part cells r) part.left part.columns)) old.altered none in
+    λ i. record old { picture = record old.picture { lines = lines_are i }; changed = ranges i; altered = altered i }
+
+-- no row is copied where no line is
+pub none_to_copy : GridLaws CellView → (part : Part) (lines : ℕ → Bool) (cells : ℕ → ℕ → CellView) (old : VirtualView) → IsGrid old.picture.rows old.picture.columns old.picture.lines
+    → ((line : ℕ) → lines line ≡ false) → old ≡ part_copied part lines cells old
+none_to_copy laws part lines cells old grid none =
+    copied_nowhere laws part lines cells old grid (λ r. left (leb part.top r) (ltb r (part.top + part.rows)) (lines (part.row + (r - part.top))) (none (part.row + (r - part.top))))
+  where
+    left : (a b t : Bool) → t ≡ false → (a && b && t) ≡ false
+    left true true t e = e
+    left true false t e = refl
+    left false b t e = refl
+
 -- nothing is copied yet
 pub none_copied : GridLaws CellView → (part : Part) (lines : ℕ → Bool) (cells : ℕ → ℕ → CellView) (old : VirtualView) → IsGrid old.picture.rows old.picture.columns old.picture.lines
     → old ≡ part_copied (rows_of_part part 0) lines cells old
 unfolding part_copied
 none_copied laws part lines cells old grid =
     let none : (r : ℕ) → is_copied (rows_of_part part 0) lines r ≡ false = λ r. none_row part.top r (lines (part.row + (r - part.top))) in
-    let lines_are = laws.places blank_cell old.picture.rows old.picture.columns old.picture.lines grid
-    ∙ grid_same old.picture.rows old.picture.columns _ _ (λ r c h b.
-    sym (ap (λ t. cond (t && leb part.left c && ltb c (part.left + part.columns)) (cells (part.row + (r - part.top)) (part.column + (c - part.left))) (grid_at blank_cell old.picture.lines r c)) (none r))) in
-    let ranges = none_put (is_copied (rows_of_part part 0) lines) (λ _. joined (Some (part.left, part.left + part.columns - 1))) old.changed none in
-    let altered = none_put (is_copied (rows_of_part part 0) lines) (λ r. joined_by (columns_unlike (grid_at blank_cell old.picture.lines r) (part_cell part cells r) part.left part.columns)) old.altered none in
-    λ i. record old { picture = record old.picture { lines = lines_are i }; changed = ranges i; altered = altered i }
+    let same = copied_nowhere laws (rows_of_part part 0) lines cells old grid none in
+    same
 
 -- cells that agree in the part are copied alike
 pub cells_same : (part : Part) (lines : ℕ → Bool) (f g : ℕ → ℕ → CellView) (old : VirtualView)

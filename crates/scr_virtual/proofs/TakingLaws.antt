@@ -1,7 +1,10 @@
 -- Windows and pads of a desk that are taken.
-use Rattle.std.proofs.Common.{◌≡◌, ℕ, Bool, true, false, ◌+◌, ◌<◌, ◌≤◌, ◌||◌, sym, ◌∙◌, ap, refl, arith, subst, drop, length, get_or, cond, leb, Option, None, Some, Result, Ok, Err}
+use Rattle.std.proofs.Common.{◌≡◌, ℕ, Bool, true, false, ◌+◌, ◌<◌, ◌≤◌, ◌||◌, sym, ◌∙◌, ap, refl, arith, subst, drop, length, get_or, cond, leb, zero, suc, List, [], ◌∷◌, Option, None, Some, Result, Ok, Err}
 use Rattle.std.specs.Prelude.{MatchOption}
+use Rattle.std.specs.Result.{result_unwrap_or}
 use Rattle.std.proofs.lemmas.List.{get_or-drop, get_or-take}
+use Rattle.std.specs.List.{list_any}
+use Rattle.std.proofs.lemmas.Bool.{or_parts}
 use Rattle.std.proofs.lemmas.Bool.Decides.{nat_tests}
 use Rattle.scr_cells.specs.CellViews.{CellView, blank_cell}
 use Rattle.scr_cells.specs.Grids.{GridLaws, grid_row}
@@ -9,7 +12,7 @@ use Rattle.scr_windows.specs.declared.surfaces.areas.Area.{Area}
 use Rattle.scr_windows.specs.Surfaces.SurfaceViews.{inside_at}
 use Rattle.scr_windows.specs.declared.faults.WinFault.{WinFault}
 use Rattle.scr_windows.specs.declared.faults.WinFault.TheVariants.{OutOfWindow}
-use Rattle.scr_windows.specs.Calls.Reading.{about_window, at, contents, window_answer}
+use Rattle.scr_windows.specs.Calls.Reading.{about_window, at, contents, window_answer, window_touched_answer}
 use Rattle.scr_windows.specs.Calls.Settings.{with_state}
 use Rattle.scr_windows.specs.Calls.Touching.{take_lines_call}
 use Rattle.scr_windows.specs.Changes.{index_of, marked, on_window, with_window}
@@ -53,6 +56,22 @@ lent_copied laws desk win lent l part lines v rows columns =
     ap (λ w. part_copied part lines (lent_at w) v) l.is
     ∙ cells_same part lines (lent_at (contents desk l.index)) (at desk l.index) v (λ r c h b.
     laws.formula blank_cell area.rows area.columns (inside_at (surface_at desk (window_at desk l.index).frame.surface) area) r c (omega (arith, rows, high)) (omega (arith, columns, wide)))
+
+-- no line is touched where none of the marks is
+pub none_touched : (touched : List Bool) → list_any (λ mark. mark) touched ≡ false → (line : ℕ) → get_or touched line false ≡ false
+none_touched [] none line = refl
+none_touched (mark ∷ touched) none zero = (or_parts mark (list_any (λ m. m) touched) none).0
+none_touched (mark ∷ touched) none (suc line) = none_touched touched (or_parts mark (list_any (λ m. m) touched) none).1 line
+
+-- a window of which no line is touched
+pub untouched : (desk : DeskView) (win : ℕ) (lent : LentView) (any : Bool) → Ok lent ≡ window_answer desk win → any ≡ result_unwrap_or (window_touched_answer desk win) true → any ≡ false
+    → list_any (λ mark. mark) lent.window.touched ≡ false
+unfolding window_touched_answer
+untouched desk win lent any answer is none =
+    let l : Lends desk win lent = lends desk win lent answer in
+    ap (λ (w : LentView). list_any (λ mark. mark) w.window.touched) l.is
+    ∙ sym (ap (λ o. result_unwrap_or (about_window o (λ i. Ok (list_any (λ mark. mark) (window_at desk i).touched))) true) l.found)
+    ∙ sym is ∙ none
 
 -- the part is still inside after lines of it were copied
 pub still_shown : (v new : VirtualView) (lent : LentView) (part some : Part) (lines : ℕ → Bool) (cells : ℕ → ℕ → CellView) → IsShown v lent part → new ≡ part_copied some lines cells v → IsShown new lent part

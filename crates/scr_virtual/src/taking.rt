@@ -1,5 +1,6 @@
 //! Taking windows and pads onto the virtual screen. The definitions are in `specs/Taking.antt`.
-ghost use Rattle.std.specs.Prelude.{ℕ, ◌≡◌, ◌+◌, ◌<◌, ◌≤◌, ◌||◌, length, IfOk, IfSome, Ok, Option};
+ghost use Rattle.std.specs.Prelude.{ℕ, ◌≡◌, ◌+◌, ◌<◌, ◌≤◌, ◌||◌, false, length, IfOk, IfSome, Ok, Option};
+ghost use Rattle.std.specs.List.{list_any};
 ghost use Rattle.scr_windows.specs.Calls.Touching.{take_lines_call};
 ghost use Rattle.scr_windows.specs.Changes.{index_of};
 ghost use Rattle.scr_windows.specs.DeskViews.{window_at};
@@ -29,7 +30,9 @@ impl Virtual {
         grid_laws::<Cell>();
         let window = desk.window(win)?;
         let part = window_part(&window)?;
-        self.show(&window, part, false);
+        let any = desk.window_touched(win).unwrap_or(true);
+        self.copy_touched(&window, part, any);
+        self.wish(&window, part);
         self.take_lines(desk, win, part);
         Ok(())
     }
@@ -74,6 +77,20 @@ impl Virtual {
     {
         self.copy_lines(window, part, all);
         self.wish(window, part);
+    }
+
+    // Copies the touched lines of a part of a window. They are looked for only if there may be any.
+    fn copy_touched(&mut self, window: &WindowRef, part: Part, any: bool)
+        requires shown { IsShown self.old window.now part }
+        requires none { any ≡ false → list_any (λ mark. mark) window.now.window.touched ≡ false }
+        ensures { self.new ≡ part_copied part (copied_lines false window.now) (lent_at window.now) self.old }
+    {
+        // What is known of this screen is said by this.
+        let _screen = self.size();
+        grid_laws::<Cell>();
+        if any {
+            self.copy_lines(window, part, false);
+        }
     }
 
     // Sets where the cursor is wanted: where that of a window is shown in a part, if it is.
