@@ -7,9 +7,10 @@ use check_harness::words::Words;
 use scr_cells::Attrs;
 use scr_term::Op;
 
-/// Reads an operation: `home`, `move R C`, `column C`, `line R`, `up N`, `down N`, `left N`, `right N`, `return`,
-/// `clear`, `erase_line`, `erase_below`, `erase_chars N`, `insert_lines N`, `delete_lines N`, `insert_chars N`,
-/// `delete_chars N`, `reset`, `enter A`, `set A`, `fore N`, `back N` or `put B`.
+/// Reads an operation: `home`, `move R C`, `column C`, `line R`, `up N`, `down N`, `left N`, `right N`, `up_by N`,
+/// `down_by N`, `left_by N`, `right_by N`, `return`, `clear`, `erase_line`, `erase_below`, `erase_chars N`,
+/// `insert_lines N`, `delete_lines N`, `insert_chars N`, `delete_chars N`, `scroll_up N`, `scroll_down N`, `reset`,
+/// `exit_attributes`, `enter A`, `set A`, `fore N`, `back N`, `put B` or `repeat B N`.
 pub fn read_op(words: &mut Words<'_>) -> Result<Op, Trouble> {
     Ok(match words.name() {
         "reset" => Op::Reset,
@@ -19,6 +20,7 @@ pub fn read_op(words: &mut Words<'_>) -> Result<Op, Trouble> {
         "fore" => Op::Fore(words.byte()),
         "back" => Op::Back(words.byte()),
         "put" => Op::Put(words.byte()),
+        "repeat" => Op::Repeat(words.byte(), words.number()),
         "home" => Op::Home,
         "return" => Op::Return,
         "clear" => Op::Clear,
@@ -39,11 +41,17 @@ fn read_counted(word: &str, words: &mut Words<'_>) -> Result<Op, Trouble> {
         "down" => Op::Down(number),
         "left" => Op::Left(number),
         "right" => Op::Right(number),
+        "up_by" => Op::UpBy(number),
+        "down_by" => Op::DownBy(number),
+        "left_by" => Op::LeftBy(number),
+        "right_by" => Op::RightBy(number),
         "erase_chars" => Op::EraseChars(number),
         "insert_lines" => Op::InsertLines(number),
         "delete_lines" => Op::DeleteLines(number),
         "insert_chars" => Op::InsertChars(number),
         "delete_chars" => Op::DeleteChars(number),
+        "scroll_up" => Op::ScrollUp(number),
+        "scroll_down" => Op::ScrollDown(number),
         _ => return Err(Trouble::Bad("no operation")),
     })
 }
@@ -58,6 +66,11 @@ pub fn add_op(op: Op, got: &mut Buffer) {
         Op::Put(byte) => {
             add_word("put", got);
             add_text(&[byte], got)
+        }
+        Op::Repeat(byte, count) => {
+            add_word("repeat", got);
+            add_text(&[byte], got);
+            add_number(i64::from(count), got)
         }
         op => {
             let (name, number) = named(op);
@@ -81,12 +94,18 @@ fn named(op: Op) -> (&'static str, Option<u32>) {
         Op::DeleteLines(count) => ("delete_lines", Some(count)),
         Op::InsertChars(count) => ("insert_chars", Some(count)),
         Op::DeleteChars(count) => ("delete_chars", Some(count)),
+        Op::ScrollUp(count) => ("scroll_up", Some(count)),
+        Op::ScrollDown(count) => ("scroll_down", Some(count)),
         Op::Column(column) => ("column", Some(column)),
         Op::Line(row) => ("line", Some(row)),
         Op::Up(count) => ("up", Some(count)),
         Op::Down(count) => ("down", Some(count)),
         Op::Left(count) => ("left", Some(count)),
         Op::Right(count) => ("right", Some(count)),
+        Op::UpBy(count) => ("up_by", Some(count)),
+        Op::DownBy(count) => ("down_by", Some(count)),
+        Op::LeftBy(count) => ("left_by", Some(count)),
+        Op::RightBy(count) => ("right_by", Some(count)),
         Op::Home => ("home", None),
         Op::Return => ("return", None),
         Op::Clear => ("clear", None),

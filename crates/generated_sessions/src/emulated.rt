@@ -12,7 +12,7 @@ pub struct Emulated {
     /// It executes the operations that updates begin.
     pub(crate) terminal: Terminal,
     // It reads the bytes that are sent, where these are ECMA-48, and what it shows counts then. It does not know the
-    // texts that insert and delete lines and characters: a terminal that has one of them is the other alone.
+    // texts that move lines and characters or repeat these: a terminal that has one of them is the other alone.
     screen: Option<EcmaScreen>,
 }
 
@@ -88,12 +88,15 @@ impl Emulated {
     }
 }
 
-// Whether a terminal can insert or delete lines or characters.
+// Whether a terminal can move lines or characters, or repeat a character.
 fn can_move(profile: &Profile) -> bool {
     profile.has(Op::InsertLines(1))
         || profile.has(Op::DeleteLines(1))
         || profile.has(Op::InsertChars(1))
         || profile.has(Op::DeleteChars(1))
+        || profile.has(Op::ScrollUp(1))
+        || profile.has(Op::ScrollDown(1))
+        || profile.has(Op::Repeat(b'-', 2))
 }
 
 /// Executes an operation on a terminal, and tells whether it is defined.

@@ -88,12 +88,17 @@ pub fn check_sessions(opened: &mut Option<Recorded>, line: &mut Line<'_>) -> Res
     Ok(())
 }
 
-// Whether an operation inserts or deletes something.
+// Whether an operation moves lines or characters.
 fn has_moved(ops: &[Op]) -> bool {
     ops.iter().any(|op| {
         matches!(
             op,
-            Op::InsertLines(_) | Op::DeleteLines(_) | Op::InsertChars(_) | Op::DeleteChars(_)
+            Op::InsertLines(_)
+                | Op::DeleteLines(_)
+                | Op::InsertChars(_)
+                | Op::DeleteChars(_)
+                | Op::ScrollUp(_)
+                | Op::ScrollDown(_)
         )
     })
 }
