@@ -2,8 +2,9 @@
 #define _XOPEN_SOURCE 700
 #define _DEFAULT_SOURCE
 
-/* The names of capabilities are those of variables here. */
+/* The names of capabilities are those of variables here, and those of calls are those of functions. */
 #define HUTTAVEL_NO_TERM_NAMES
+#define NCURSES_NOMACROS
 #include "term.h"
 #include "termcap.h"
 

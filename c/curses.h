@@ -218,11 +218,18 @@ int scr_restore(const char *name);
 int scr_init(const char *name);
 int scr_set(const char *name);
 
-/* Places and sizes. A WINDOW begins with the place of its cursor, which getyx() reads there. */
+/* Places and sizes. */
 struct huttavel_curses_place {
     int row, column;
 };
-#define huttavel_curses_place(window) ((const struct huttavel_curses_place *)(window))
+/* What a WINDOW begins with, which macros read and write there: its cursor; what characters are written with, of its
+ * bits those of attributes and the colour pair; and whether the library is still to be told of that. */
+struct huttavel_curses_front {
+    struct huttavel_curses_place cursor;
+    attr_t pen;
+    bool has_other_pen;
+};
+#define huttavel_curses_place(window) (&((const struct huttavel_curses_front *)(window))->cursor)
 int getcury(const WINDOW *window);
 int getcurx(const WINDOW *window);
 int getbegy(const WINDOW *window);
@@ -430,6 +437,8 @@ int getnstr(char *text, int most);
 int wgetnstr(WINDOW *window, char *text, int most);
 int mvgetnstr(int row, int column, char *text, int most);
 int mvwgetnstr(WINDOW *window, int row, int column, char *text, int most);
+
+#include "curses_macros.h"
 
 #ifdef __cplusplus
 }

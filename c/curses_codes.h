@@ -56,6 +56,8 @@
 /* Pairs are 0 to 63. Pair 0 is the terminal's own colours. */
 #define COLOR_PAIR(n) (((chtype)(n) & 255u) << 16)
 #define PAIR_NUMBER(a) ((int)(((chtype)(a) & A_COLOR) >> 16))
+/* The bits of pairs that there are only after use_default_colors(). */
+#define HUTTAVEL_LATE_PAIRS (A_COLOR & ~COLOR_PAIR(63))
 
 /* Line drawing, by the letters of the VT100's graphic set. acs_map has the ASCII stand-ins of X/Open Curses Issue 7,
    'Line Graphics'. */

@@ -16,6 +16,12 @@ typedef struct reply {
     uint32_t third;
 } reply;
 
+/* What a call gives that copies a text or cells: a fault's number, and the length of the text, or how many were copied. */
+typedef struct length_reply {
+    uint32_t fault;
+    size_t count;
+} length_reply;
+
 reply huttavel_held_open(huttavel *handle, const uint8_t *entry, size_t length, uint32_t rows, uint32_t columns);
 reply huttavel_held_open_bundled(huttavel *handle, uint32_t rows, uint32_t columns);
 uint32_t huttavel_held_close(huttavel *handle);
@@ -116,6 +122,8 @@ reply huttavel_held_property(huttavel *handle, uint32_t window, uint32_t propert
 reply huttavel_held_is_on(huttavel *handle, uint32_t window, uint32_t setting);
 reply huttavel_held_background_of(huttavel *handle, uint32_t window);
 reply huttavel_held_cell_at(huttavel *handle, uint32_t window, uint32_t row, uint32_t column);
+length_reply huttavel_held_cells(huttavel *handle, uint32_t window, uint32_t row, uint32_t column, huttavel_cell *cells,
+                                 size_t room);
 reply huttavel_held_line_touched(huttavel *handle, uint32_t window, uint32_t row);
 reply huttavel_held_window_touched(huttavel *handle, uint32_t window);
 reply huttavel_held_window_count(huttavel *handle);
@@ -125,12 +133,6 @@ reply huttavel_held_nth_window(huttavel *handle, uint32_t index);
 reply huttavel_held_pair_colours(huttavel *handle, uint32_t pair);
 reply huttavel_held_wanted_cell(huttavel *handle, uint32_t row, uint32_t column);
 reply huttavel_held_wanted_cursor(huttavel *handle);
-
-/* What a call gives that copies a text: a fault's number, and the length of the text. */
-typedef struct length_reply {
-    uint32_t fault;
-    size_t count;
-} length_reply;
 
 /* The parameters of a text: nine fields in the proved library. */
 typedef struct parameters {

@@ -20,7 +20,7 @@ NM ?= nm
 SHIM_FLAGS := -std=c99 -Wall -Wextra -pedantic -I $(SHIM) -I $(HUTTAVEL_INCLUDE)
 SHIM_HEADERS := $(addprefix $(SHIM),curses.h ncurses.h panel.h term.h termcap.h unctrl.h)
 # Parts of curses.h and of term.h.
-SHIM_HEADER_PARTS := $(addprefix $(SHIM),curses_codes.h term_names.h)
+SHIM_HEADER_PARTS := $(addprefix $(SHIM),curses_codes.h curses_macros.h term_names.h)
 SHIM_PARTS := $(SHIM_HEADER_PARTS) $(SHIM)curses/screens.h $(wildcard $(SHIM)curses/*.c)
 SHIM_OUT := $(SHIM)out
 SHIM_OBJECTS := $(addprefix $(SHIM_OUT)/,curses.o panel.o)

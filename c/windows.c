@@ -3,8 +3,9 @@
  */
 #include "held.h"
 
-/* Stands for no bytes. */
+/* Stand for no bytes, and for no cells. */
 static const uint8_t no_bytes[1] = {0};
+static huttavel_cell no_cells[1];
 
 /* A truth value, unless the call was refused. */
 static uint32_t give_bool(reply answer, bool *on)
@@ -372,6 +373,21 @@ uint32_t huttavel_parent(huttavel *handle, uint32_t window, uint32_t *parent)
 uint32_t huttavel_cell_at(huttavel *handle, uint32_t window, uint32_t row, uint32_t column, huttavel_cell *cell)
 {
     return handle == NULL ? HUTTAVEL_CLOSED : give_cell(huttavel_held_cell_at(handle, window, row, column), cell);
+}
+
+uint32_t huttavel_cells(huttavel *handle, uint32_t window, uint32_t row, uint32_t column, huttavel_cell *cells,
+                        size_t room, size_t *count)
+{
+    length_reply answer;
+
+    if (is_closed(handle))
+        return HUTTAVEL_CLOSED;
+    if (room > PTRDIFF_MAX / sizeof *cells || (cells == NULL && room > 0))
+        return HUTTAVEL_BAD_LENGTH;
+    answer = huttavel_held_cells(handle, window, row, column, cells == NULL ? no_cells : cells, room);
+    if (answer.fault == HUTTAVEL_OK && count != NULL)
+        *count = answer.count;
+    return answer.fault;
 }
 
 uint32_t huttavel_written_attrs(huttavel *handle, uint32_t window, uint8_t *attrs, uint32_t *pair)

@@ -192,6 +192,11 @@ uint32_t huttavel_parent(huttavel *handle, uint32_t window, uint32_t *parent);
 /* The cell at a place. Refused: OUT_OF_WINDOW. inch(). */
 uint32_t huttavel_cell_at(huttavel *handle, uint32_t window, uint32_t row, uint32_t column, huttavel_cell *cell);
 
+/* Copies cells of a row, from a column on, as many as there are and there is room for, and tells how many. Refused:
+ * OUT_OF_WINDOW. inchstr(). */
+uint32_t huttavel_cells(huttavel *handle, uint32_t window, uint32_t row, uint32_t column, huttavel_cell *cells,
+                        size_t room, size_t *count);
+
 /* The attributes and the pair that bytes are written with; the background; the scrolling region. wattr_get(),
  * getbkgd(), wgetscrreg(). */
 uint32_t huttavel_written_attrs(huttavel *handle, uint32_t window, uint8_t *attrs, uint32_t *pair);

@@ -15,13 +15,14 @@ static attr_t pen_for(const WINDOW *window, chtype character)
 {
     attr_t pair = pair_in(character);
 
-    return pair ? (window->pen & ~A_COLOR) | pair : window->pen;
+    return pair ? (window->front.pen & ~A_COLOR) | pair : window->front.pen;
 }
 
 /* The same with its attributes, too. */
 static attr_t pen_of(const WINDOW *window, chtype character)
 {
-    return character <= A_CHARTEXT ? window->pen : pen_for(window, character) | (character & A_ATTRIBUTES & ~A_COLOR);
+    return character <= A_CHARTEXT ? window->front.pen
+                                   : pen_for(window, character) | (character & A_ATTRIBUTES & ~A_COLOR);
 }
 
 /* Adds a byte with its attributes and pair; whether it needed a next line and there was none. */
@@ -37,8 +38,8 @@ static uint32_t add_byte(WINDOW *window, chtype character, bool *stayed)
 /* Whether a character is written as it is, and before the last place of a line. None is on curscr. */
 static inline bool is_simple(const WINDOW *window, chtype character)
 {
-    return is_printable(byte_of(character)) && !((character | window->pen) & A_ALTCHARSET) &&
-           (unsigned)window->cursor.column < (unsigned)window->columns - 1;
+    return is_printable(byte_of(character)) && !((character | window->front.pen) & A_ALTCHARSET) &&
+           (unsigned)window->front.cursor.column < (unsigned)window->columns - 1;
 }
 
 /* Whether there is room for a character that a window writes with a pen behind those that were added last. */
@@ -53,14 +54,14 @@ static inline bool follows(const WINDOW *window, attr_t pen)
 static struct added *added_to(WINDOW *window, attr_t pen)
 {
     struct added *added = &window->screen->added;
-    int left = window->columns - 1 - window->cursor.column;
+    int left = window->columns - 1 - window->front.cursor.column;
 
     if (follows(window, pen))
         return added;
     handle_with(window, pen);
     added->window = window;
     added->pen = pen;
-    added->begun = window->cursor;
+    added->begun = window->front.cursor;
     added->room = left < ADDED ? (size_t)left : ADDED;
     return added;
 }
@@ -68,7 +69,7 @@ static struct added *added_to(WINDOW *window, attr_t pen)
 static inline void put_behind(WINDOW *window, struct added *added, chtype character)
 {
     added->bytes[added->length++] = byte_of(character);
-    window->cursor.column++;
+    window->front.cursor.column++;
 }
 
 /* Adds a simple character. */
@@ -81,12 +82,12 @@ static void add_simple(WINDOW *window, chtype character)
 static void add_all_simple(WINDOW *window, const char *text, size_t length)
 {
     while (length > 0) {
-        struct added *added = added_to(window, window->pen);
+        struct added *added = added_to(window, window->front.pen);
         size_t left = added->room - added->length, count = left < length ? left : length;
 
         memcpy(added->bytes + added->length, text, count);
         added->length += count;
-        window->cursor.column += (int)count;
+        window->front.cursor.column += (int)count;
         text += count;
         length -= count;
     }
@@ -99,9 +100,9 @@ static bool begins_again(WINDOW *window)
     uint32_t top = 0, bottom = 0;
 
     huttavel_region(handle_of(window), window->number, &top, &bottom);
-    if (window->cursor.row == (int)bottom)
+    if (window->front.cursor.row == (int)bottom)
         return false;
-    set_place(window, window->cursor.row, 0);
+    set_place(window, window->front.cursor.row, 0);
     return true;
 }
 
@@ -124,7 +125,7 @@ static bool is_at_end(const WINDOW *window)
     uint32_t top = 0, bottom = 0;
 
     huttavel_region(handle_of(window), window->number, &top, &bottom);
-    return !window->is_scrolling && window->cursor.row == (int)bottom;
+    return !window->is_scrolling && window->front.cursor.row == (int)bottom;
 }
 
 /* Adds a tab: blanks with the window's attributes, which the library's tab has not. One that leaves its line is a line
@@ -170,7 +171,7 @@ static int add_marked(WINDOW *window, chtype character)
 
     if (!window)
         return ERR;
-    begun = window->cursor;
+    begun = window->front.cursor;
     done = add_one(window, character);
     mark_written(window, &begun, 1, is_printable(byte_of(character)));
     return changed_marked(window, done);
@@ -181,7 +182,7 @@ static int add_marked(WINDOW *window, chtype character)
 int waddch(WINDOW *window, const chtype character)
 {
     if (!window || character & A_COLOR || !is_printable(byte_of(character)) ||
-        !follows(window, window->pen | (character & A_ATTRIBUTES)))
+        !follows(window, window->front.pen | (character & A_ATTRIBUTES)))
         return add_marked(window, character);
     put_behind(window, &window->screen->added, character);
     return OK;
@@ -196,9 +197,9 @@ int wechochar(WINDOW *window, const chtype character)
    side by side before the end of the window's line, its last place left out, where they are written as they are. */
 static size_t side_by_side(const WINDOW *window, size_t printable)
 {
-    int room = window->columns - 1 - window->cursor.column;
+    int room = window->columns - 1 - window->front.cursor.column;
 
-    if (room <= 0 || window->pen & A_ALTCHARSET || is_shown(window))
+    if (room <= 0 || window->front.pen & A_ALTCHARSET || is_shown(window))
         return 0;
     return (size_t)room < printable ? (size_t)room : printable;
 }
@@ -253,7 +254,7 @@ int waddnstr(WINDOW *window, const char *text, int most)
         add_all_simple(window, text, length);
         return changed_marked(window, OK);
     }
-    begun = window->cursor;
+    begun = window->front.cursor;
     done = add_bytes(window, text, length, printable);
     mark_written(window, &begun, length, printable == length);
     return changed_marked(window, done);

@@ -14,7 +14,7 @@ static void begin_cells(WINDOW *window, struct aside *aside)
     huttavel *handle = handle_of(window);
 
     huttavel_background(handle, window->number, &aside->background);
-    aside->cursor = window->cursor;
+    aside->cursor = window->front.cursor;
     huttavel_set_background(handle, window->number, ' ', 0, 0);
 }
 
@@ -24,7 +24,7 @@ static void end_cells(WINDOW *window, const struct aside *aside)
     const huttavel_cell *background = &aside->background;
 
     huttavel_set_background(handle, window->number, background->byte, background->attrs, background->pair);
-    set_pen(window, window->pen);
+    set_pen(window, window->front.pen);
     set_place(window, aside->cursor.row, aside->cursor.column);
 }
 
@@ -80,7 +80,7 @@ int waddchnstr(WINDOW *window, const chtype *characters, int most)
 
     if (!window || !characters || is_shown(window))
         return ERR;
-    count = window->columns - window->cursor.column;
+    count = window->columns - window->front.cursor.column;
     count = characters_in(characters, most < 0 || most > count ? count : most);
     if (count < 0)
         return ERR;
@@ -112,7 +112,7 @@ int wchgat(WINDOW *window, int count, attr_t attrs, short pair, const void *opti
     if (!window || is_shown(window) || pair < 0 || pair >= pair_limit(window->screen))
         return ERR;
     held = (uint8_t)held_pair(window->screen, pair);
-    room = window->columns - window->cursor.column;
+    room = window->columns - window->front.cursor.column;
     if (count < 0 || count > room)
         count = room;
     begin_cells(window, &aside);

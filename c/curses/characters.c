@@ -82,10 +82,10 @@ static attr_t pair_in(chtype character)
     return character & A_COLOR && pair_of(character) ? character & A_COLOR : 0;
 }
 
-/* A cell as a chtype. */
-static chtype character_of(huttavel_cell cell)
+/* A cell of a screen's windows as a chtype. */
+static chtype character_of(const SCREEN *screen, huttavel_cell cell)
 {
-    return (chtype)cell.byte | (chtype)cell.attrs << 8 | COLOR_PAIR(named_pair(current, cell.pair));
+    return (chtype)cell.byte | (chtype)cell.attrs << 8 | COLOR_PAIR(named_pair(screen, cell.pair));
 }
 
 /* A chtype as a cell. */
@@ -118,5 +118,5 @@ static chtype drawn(chtype character)
 /* The same where the window has A_ALTCHARSET on. */
 static chtype drawn_in(const WINDOW *window, chtype character)
 {
-    return drawn(character | (window->pen & A_ALTCHARSET));
+    return drawn(character | (window->front.pen & A_ALTCHARSET));
 }

@@ -38,41 +38,47 @@ struct search {
 static struct text read_file(const char *path, struct search *search)
 {
     struct text text = {NULL, 0};
-    FILE *file = fopen(path, "rb");
+    int file = open(path, O_RDONLY | O_CLOEXEC);
+    ssize_t count;
 
-    if (!file)
+    if (file < 0)
         return text;
     text.bytes = malloc(LONGEST_ENTRY);
     search->is_short |= !text.bytes;
-    if (text.bytes)
-        text.length = fread(text.bytes, 1, LONGEST_ENTRY, file);
-    if (text.bytes && ferror(file)) {
-        free(text.bytes);
-        text.bytes = NULL;
-    }
-    fclose(file);
+    while (text.bytes && (count = read(file, text.bytes + text.length, LONGEST_ENTRY - text.length)) != 0)
+        if (count > 0) {
+            text.length += (size_t)count;
+        } else if (errno != EINTR) {
+            free(text.bytes);
+            text.bytes = NULL;
+        }
+    close(file);
     return text;
 }
 
 /* Reads the entry of a name from a folder: it is in the subfolder of its first letter, or of the letter's code. */
 static struct text read_in(const char *folder, size_t length, struct search *search)
 {
+    static const char digits[] = "0123456789abcdef";
     const char *name = search->name;
+    const char letter[] = {'/', *name, '/', '\0'}, code[] = {'/', digits[*name / 16], digits[*name % 16], '/', '\0'};
     struct text text = {NULL, 0};
-    size_t room = length + strlen(name) + 8;
-    char *path = malloc(room);
+    char *path = malloc(length + sizeof code + strlen(name));
 
     search->is_short |= !path;
     if (!path)
         return text;
-    snprintf(path, room, "%.*s/%c/%s", (int)length, folder, name[0], name);
-    text = read_file(path, search);
-    if (!text.bytes && !search->is_short) {
-        snprintf(path, room, "%.*s/%02x/%s", (int)length, folder, (unsigned char)name[0], name);
-        text = read_file(path, search);
-    }
+    memcpy(path, folder, length);
     path[length] = '\0';
-    search->has_folder |= access(path, F_OK) == 0;
+    if (access(path, F_OK) == 0) {
+        search->has_folder = true;
+        strcat(strcpy(path + length, letter), name);
+        text = read_file(path, search);
+        if (!text.bytes && !search->is_short) {
+            strcat(strcpy(path + length, code), name);
+            text = read_file(path, search);
+        }
+    }
     free(path);
     return text;
 }

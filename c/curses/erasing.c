@@ -5,7 +5,7 @@ static int erase_by(uint32_t (*call)(huttavel *, uint32_t), WINDOW *window)
 {
     if (call(handle_of(window), number_of(window)) != HUTTAVEL_OK)
         return ERR;
-    window->cursor.row = window->cursor.column = 0;
+    window->front.cursor.row = window->front.cursor.column = 0;
     window->has_moved = true;
     return changed(window, OK);
 }
@@ -23,15 +23,15 @@ int wclear(WINDOW *window)
 int wclrtoeol(WINDOW *window)
 {
     if (window)
-        mark(window, window->cursor.row, window->cursor.column, window->columns - 1);
+        mark(window, window->front.cursor.row, window->front.cursor.column, window->columns - 1);
     return changed_marked(window, answer(huttavel_clear_to_eol(handle_of(window), number_of(window))));
 }
 
 int wclrtobot(WINDOW *window)
 {
     if (window) {
-        mark(window, window->cursor.row, window->cursor.column, window->columns - 1);
-        mark_lines(window, window->cursor.row + 1, window->rows - 1);
+        mark(window, window->front.cursor.row, window->front.cursor.column, window->columns - 1);
+        mark_lines(window, window->front.cursor.row + 1, window->rows - 1);
     }
     return changed_marked(window, answer(huttavel_clear_to_bottom(handle_of(window), number_of(window))));
 }
@@ -39,7 +39,7 @@ int wclrtobot(WINDOW *window)
 int wdelch(WINDOW *window)
 {
     if (window)
-        mark(window, window->cursor.row, window->cursor.column, window->columns - 1);
+        mark(window, window->front.cursor.row, window->front.cursor.column, window->columns - 1);
     return changed_marked(window, answer(huttavel_delete_byte(handle_of(window), number_of(window))));
 }
 

@@ -7,7 +7,7 @@
 /* Whether a cell can hold all of a chtype. */
 static bool is_cell(chtype character)
 {
-    return is_printable(byte_of(character)) && character_of(cell_of(character)) == character;
+    return is_printable(byte_of(character)) && character_of(current, cell_of(character)) == character;
 }
 
 /* Writes a line of numbers. */
@@ -65,7 +65,7 @@ static bool write_cells(FILE *file, WINDOW *window)
     for (row = 0; row < window->rows; row++)
         for (column = 0; column < window->columns; column++)
             if (!cell_at(window, row, column, &cell) ||
-                fprintf(file, "%u%c", character_of(cell), column == window->columns - 1 ? '\n' : ' ') < 0)
+                fprintf(file, "%u%c", character_of(window->screen, cell), column == window->columns - 1 ? '\n' : ' ') < 0)
                 return false;
     return true;
 }

@@ -72,7 +72,7 @@ int winsch(WINDOW *window, chtype character)
 
     if (!window || is_shown(window))
         return ERR;
-    begun = at = window->cursor;
+    begun = at = window->front.cursor;
     return end_insertion(window, &begun, insert_one(window, &at, drawn_in(window, character)));
 }
 
@@ -85,7 +85,7 @@ int winsnstr(WINDOW *window, const char *text, int most)
 
     if (!window || is_shown(window) || !text)
         return ERR;
-    begun = at = window->cursor;
+    begun = at = window->front.cursor;
     for (length = length_of(text, most < 1 ? -1 : most); length > 0 && done == OK; length--)
         done = insert_one(window, &at, drawn_in(window, (unsigned char)*text++));
     return end_insertion(window, &begun, done);

@@ -36,12 +36,10 @@ static void mark_lines(WINDOW *window, int first, int last)
 }
 
 /* Nothing is marked from now on. */
-static void unmark(WINDOW *window)
+static SELDOM void unmark_all(WINDOW *window)
 {
     int row;
 
-    if (!window->is_whole && !window->is_marked)
-        return;
     window->is_whole = window->is_marked = false;
     for (row = 0; row < window->rows && row < LARGEST; row++) {
         window->marks[row].first = 1;
@@ -49,11 +47,19 @@ static void unmark(WINDOW *window)
     }
 }
 
+/* The same, of a window in which something may be marked. */
+static inline void unmark(WINDOW *window)
+{
+    if (window->is_whole || window->is_marked)
+        unmark_all(window);
+}
+
 /* Marks what was written from a place on, so many places if all of it is printable: the cursor is at its end. Where it
    is elsewhere, the window may have scrolled. */
 static void mark_written(WINDOW *window, const struct huttavel_curses_place *begun, size_t length, bool is_printable)
 {
-    int row = begun->row, column = begun->column, end_row = window->cursor.row, end_column = window->cursor.column;
+    int row = begun->row, column = begun->column;
+    int end_row = window->front.cursor.row, end_column = window->front.cursor.column;
     size_t end = (size_t)column + length;
 
     if (is_printable && end_row == row && end == (size_t)end_column) {

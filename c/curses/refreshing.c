@@ -105,35 +105,46 @@ static int copy_over_edge(WINDOW *window)
     return OK;
 }
 
-/* Copies a window to the virtual screen. For curscr, all rows are repainted. */
+/* Copies a window, once the handle was given the rest of it, which marks places. */
+static SELDOM int copy_window(WINDOW *window)
+{
+    bool is_fresh = window->is_fresh;
+
+    window->was_copied = true;
+    if (has_rest(window))
+        settle(window);
+    if (window->is_over)
+        return copy_over_edge(window);
+    if (!is_fresh && !window->is_whole && has_neighbours(window))
+        return copy_marked(window);
+    return answer(huttavel_noutrefresh(&window->screen->handle, window->number));
+}
+
+/* Copies a window to the virtual screen. For curscr, all rows are repainted. Copying changes no cell, so what was read
+   of a window stays. */
 int wnoutrefresh(WINDOW *window)
 {
+    SCREEN *screen;
     int done;
-    bool is_fresh;
 
     if (!window)
         return ERR;
+    screen = window->screen;
     if (is_shown(window)) {
-        window->screen->is_disturbed = 1;
+        screen->is_disturbed = 1;
         return OK;
     }
-    if (window->screen->copied == window && !window->is_moved)
+    if (screen->copied == window && !window->is_moved)
         return OK;
-    is_fresh = window->is_fresh;
-    /* Before the marks are looked at. */
-    handle_of(window);
     window->has_moved = false;
-    window->was_copied = true;
-    if (window->is_over)
-        done = copy_over_edge(window);
-    else if (!is_fresh && !window->is_whole && has_neighbours(window))
-        done = copy_marked(window);
+    if (window->is_fresh && !window->is_over && !has_rest(window))
+        done = answer(huttavel_noutrefresh(&screen->handle, window->number));
     else
-        done = answer(huttavel_noutrefresh(handle_of(window), window->number));
+        done = copy_window(window);
     if (done == OK) {
         unmark(window);
         window->is_fresh = true;
-        window->screen->copied = window;
+        screen->copied = window;
     }
     return done;
 }

@@ -69,7 +69,7 @@ static void copy_settings(WINDOW *window, huttavel *to, uint32_t number, const s
     huttavel *from = handle_of(window);
     huttavel_cell background = {' ', 0, 0};
     uint32_t top = 0, bottom = 0;
-    int row = window->cursor.row, column = window->cursor.column;
+    int row = window->front.cursor.row, column = window->front.cursor.column;
     bool is_on = false;
 
     huttavel_background(from, window->number, &background);
@@ -203,6 +203,7 @@ static void take_over(SCREEN *screen, huttavel to, const struct again *all, int 
     huttavel_close(&screen->handle);
     screen->handle = to;
     screen->copied = NULL;
+    screen->seen.window = NULL;
     screen->shown->rows = rows;
     screen->rows = rows - screen->above - screen->below;
     screen->columns = screen->shown->columns = columns;

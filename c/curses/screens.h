@@ -10,6 +10,10 @@
 /* How many characters are added before the handle is given them. */
 #define ADDED 128
 
+/* How many cells of a line are read at a time for winch(), and for a call that reads all of it. */
+#define CELLS_READ 16
+#define LONGEST_READ 128
+
 /* How many keys ungetch() keeps. */
 #define PUSHED 64
 
@@ -37,6 +41,13 @@
 
 /* The length of ttytype. */
 #define TYPE_LENGTH 256
+
+/* A function that a short one calls seldom, which would save registers for it where it was part of it. */
+#ifdef __GNUC__
+#define SELDOM __attribute__((__noinline__))
+#else
+#define SELDOM
+#endif
 
 /* Bytes of memory, and how many of them there are. */
 struct text {
@@ -121,18 +132,16 @@ struct places {
 };
 
 struct huttavel_curses_window {
-    struct huttavel_curses_place cursor; /* what getyx() reads; ERR and ERR of curscr */
+    struct huttavel_curses_front front; /* what macros read and write; the cursor of curscr is ERR and ERR */
     SCREEN *screen;
     WINDOW *next;              /* in the order in which they were made */
     WINDOW *parent;            /* NULL of a window of its own */
     uint32_t number;           /* of the handle */
     int rows, columns;
     int parent_row, parent_column; /* where it begins in its parent; -1 without one */
-    attr_t pen;                /* what characters are written with: of these bits, those of PEN; the program's pair */
     uint8_t attrs;             /* what the handle's window writes with */
     uint32_t pair;
-    bool has_other_pen;        /* the handle's window was not given the pen yet */
-    bool is_moved;             /* nor the cursor */
+    bool is_moved;             /* the handle's window was not given the cursor yet */
     bool has_moved;            /* the cursor was moved since the window was copied last */
     bool is_scrolling;         /* scrollok() */
     int ripped;                /* ripoffline(): 1 is the topmost line, 2 the next; -1 is the lowest; 0 otherwise */
@@ -163,6 +172,13 @@ struct added {
     uint8_t bytes[ADDED];
 };
 
+/* Characters of a line of a window, from a column on, as they were read last. */
+struct seen {
+    const WINDOW *window;      /* NULL once the handle was asked for any other thing about a window */
+    int row, column, count;
+    chtype characters[CELLS_READ];
+};
+
 /* The colour pairs of a program, and those of the handle, of which there are fewer. They have the same numbers until a
    pair above 63 is used: it takes one that was not used yet, whose own pair takes another when it is used. */
 struct pairs {
@@ -185,6 +201,7 @@ struct huttavel_curses_screen {
     const WINDOW *copied;      /* the window that was copied last; NULL once the handle was asked for any other thing
                                   about a window, so that this one may have to be copied again */
     struct added added;
+    struct seen seen;
     bool has_patch;
     uint32_t patch;            /* a pad of the handle of one line, by which parts of lines are copied */
     WINDOW *whole;             /* a window over the whole screen that nothing is written on, or NULL */
@@ -241,20 +258,27 @@ static int answer(uint32_t fault)
 
 static void settle(const WINDOW *window);
 
-/* The handle is asked for something about a window, which may have to be copied again then. */
+/* The handle is asked for something about a window, which may have to be copied again then, and read. */
 static inline void note_call(const WINDOW *window)
 {
     ((WINDOW *)window)->is_fresh = false;
     window->screen->copied = NULL;
+    window->screen->seen.window = NULL;
 }
 
-/* The handle that a window is of. It is given now what it was not given yet: characters that were added to any window,
-   and this one's cursor and pen. NULL, which each call refuses, without a window. */
+/* Whether the handle was not given something yet: characters that were added to any window, or this one's cursor or
+   pen. */
+static inline bool has_rest(const WINDOW *window)
+{
+    return window->is_moved || window->front.has_other_pen || window->screen->added.length > 0;
+}
+
+/* The handle that a window is of, which is given the rest. NULL, which each call refuses, without a window. */
 static huttavel *handle_of(const WINDOW *window)
 {
     if (!window)
         return NULL;
-    if (window->is_moved || window->has_other_pen || window->screen->added.length > 0)
+    if (has_rest(window))
         settle(window);
     note_call(window);
     return &window->screen->handle;

@@ -79,8 +79,8 @@ void timeout(int milliseconds)
 /* Sets what characters are written with. */
 static int set_pen(WINDOW *window, attr_t pen)
 {
-    window->pen = pen;
-    window->has_other_pen = true;
+    window->front.pen = pen;
+    window->front.has_other_pen = true;
     return OK;
 }
 
@@ -97,7 +97,7 @@ int wattr_on(WINDOW *window, attr_t attrs, void *options)
     (void)options;
     if (!window)
         return ERR;
-    return set_pen(window, (pair ? window->pen & ~A_COLOR : window->pen) | (attrs & ~A_COLOR) | pair);
+    return set_pen(window, (pair ? window->front.pen & ~A_COLOR : window->front.pen) | (attrs & ~A_COLOR) | pair);
 }
 
 int wattr_off(WINDOW *window, attr_t attrs, void *options)
@@ -105,7 +105,7 @@ int wattr_off(WINDOW *window, attr_t attrs, void *options)
     (void)options;
     if (!window)
         return ERR;
-    return set_pen(window, window->pen & ~(pair_in(attrs) ? attrs | A_COLOR : attrs & ~A_COLOR));
+    return set_pen(window, window->front.pen & ~(pair_in(attrs) ? attrs | A_COLOR : attrs & ~A_COLOR));
 }
 
 int wattr_set(WINDOW *window, attr_t attrs, short pair, void *options)
@@ -120,9 +120,9 @@ int wattr_get(WINDOW *window, attr_t *attrs, short *pair, void *options)
     if (!window)
         return ERR;
     if (attrs)
-        *attrs = window->pen & PEN;
+        *attrs = window->front.pen & PEN;
     if (pair)
-        *pair = (short)PAIR_NUMBER(window->pen);
+        *pair = (short)PAIR_NUMBER(window->front.pen);
     return OK;
 }
 
@@ -143,19 +143,16 @@ int wattroff(WINDOW *window, int attrs)
     return wattr_off(window, (attr_t)attrs, NULL);
 }
 
-/* The bits of pairs that there are only after use_default_colors(). */
-#define LATE_PAIRS (A_COLOR & ~COLOR_PAIR(HELD_PAIRS - 1))
-
 int wattrset(WINDOW *window, int attrs)
 {
-    if (!window || ((attr_t)attrs & LATE_PAIRS && !has_pair(window, PAIR_NUMBER(attrs))))
+    if (!window || ((attr_t)attrs & HUTTAVEL_LATE_PAIRS && !has_pair(window, PAIR_NUMBER(attrs))))
         return ERR;
     return set_pen(window, (attr_t)attrs);
 }
 
 int wcolor_set(WINDOW *window, short pair, void *options)
 {
-    return window ? wattr_set(window, window->pen, pair, options) : ERR;
+    return window ? wattr_set(window, window->front.pen, pair, options) : ERR;
 }
 
 int wstandout(WINDOW *window)
@@ -194,5 +191,5 @@ chtype getbkgd(WINDOW *window)
 
     if (huttavel_background(handle_of(window), number_of(window), &cell) != HUTTAVEL_OK)
         return (chtype)ERR;
-    return character_of(cell);
+    return character_of(window->screen, cell);
 }

@@ -22,16 +22,21 @@ static struct terminal *terminals;
 static void show_strings(struct terminal *terminal)
 {
     const struct strings strings = strings_of(&terminal->file);
-    size_t position;
+    uint8_t *bytes = terminal->file.bytes, *offset = bytes + strings.offsets;
+    size_t table = strings.offsets + 2 * strings.count, position;
 
-    for (position = 0; position < strings.count && position < COUNT_OF(terminal->seen.strings); position++)
-        terminal->seen.strings[position] = string_at(&strings, position);
+    /* An absent string has an offset from 0x8000 on, which is beyond the end of every file. */
+    for (position = 0; position < strings.count && position < COUNT_OF(terminal->seen.strings); position++, offset += 2) {
+        size_t place = table + (offset[0] | (size_t)offset[1] << 8);
+
+        terminal->seen.strings[position] = place < strings.end ? (char *)bytes + place : NULL;
+    }
 }
 
-/* A number of a file: -1 if it is absent. As in the library, a greater one than 32,767 counts as this. */
-static int number_at(const struct text *file, size_t position)
+/* The number at a place of a file, of so many bytes: -1 if it is absent. As in the library, a greater one than 32,767
+   counts as this. */
+static int number_at(const struct text *file, size_t place, size_t width)
 {
-    size_t width = width_of_numbers(file), place = numbers_of(file) + width * position;
     unsigned low = short_at(file, place), high = width == 4 ? short_at(file, place + 2) : 0;
 
     if (high > 0x7fff || (width == 2 && low > 0x7fff))
@@ -43,12 +48,14 @@ static int number_at(const struct text *file, size_t position)
 static void show_flags_and_numbers(struct terminal *terminal)
 {
     const struct text *file = &terminal->file;
+    const uint8_t *flag = file->bytes + flags_of(file);
     size_t flags = short_at(file, 4), numbers = short_at(file, 6), position;
+    size_t place = numbers_of(file), width = width_of_numbers(file);
 
     for (position = 0; position < flags && position < COUNT_OF(terminal->seen.flags); position++)
-        terminal->seen.flags[position] = file->bytes[flags_of(file) + position] == 1;
-    for (position = 0; position < COUNT_OF(terminal->seen.numbers); position++)
-        terminal->seen.numbers[position] = position < numbers ? number_at(file, position) : -1;
+        terminal->seen.flags[position] = flag[position] == 1;
+    for (position = 0; position < COUNT_OF(terminal->seen.numbers); position++, place += width)
+        terminal->seen.numbers[position] = position < numbers ? number_at(file, place, width) : -1;
 }
 
 /* Takes all that a compiled entry has, which the library can open. False if memory runs out. */

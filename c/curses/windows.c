@@ -7,8 +7,8 @@ static void read_cursor(WINDOW *window)
 
     if (huttavel_cursor(&window->screen->handle, window->number, &row, &column) != HUTTAVEL_OK)
         return;
-    window->cursor.row = (int)row;
-    window->cursor.column = (int)column;
+    window->front.cursor.row = (int)row;
+    window->front.cursor.column = (int)column;
     window->is_moved = false;
 }
 
@@ -56,24 +56,25 @@ static huttavel *handle_with(WINDOW *window, attr_t pen)
 
     give_added(window->screen);
     if (window->is_moved)
-        huttavel_move_cursor(handle, window->number, (uint32_t)window->cursor.row, (uint32_t)window->cursor.column);
+        huttavel_move_cursor(handle, window->number, (uint32_t)window->front.cursor.row,
+                             (uint32_t)window->front.cursor.column);
     window->is_moved = false;
     set_held_pen(window, attrs_of(pen), held_pair(window->screen, PAIR_NUMBER(pen)));
-    window->has_other_pen = pen != window->pen;
+    window->front.has_other_pen = pen != window->front.pen;
     note_call(window);
     return handle;
 }
 
 static void settle(const WINDOW *window)
 {
-    handle_with((WINDOW *)window, window->pen);
+    handle_with((WINDOW *)window, window->front.pen);
 }
 
 /* Makes a place of a window that it has its cursor. */
 static void set_place(WINDOW *window, int row, int column)
 {
-    window->cursor.row = row;
-    window->cursor.column = column;
+    window->front.cursor.row = row;
+    window->front.cursor.column = column;
     window->is_moved = true;
 }
 
@@ -87,7 +88,7 @@ static WINDOW *spare_window(SCREEN *screen)
     window->screen = screen;
     window->number = NO_NUMBER;
     window->parent_row = window->parent_column = -1;
-    window->cursor.row = window->cursor.column = ERR;
+    window->front.cursor.row = window->front.cursor.column = ERR;
     window->delay = -1;
     return window;
 }
@@ -105,7 +106,7 @@ static WINDOW *kept_window(WINDOW *window, uint32_t fault)
         end = &(*end)->next;
     *end = window;
     read_window(window);
-    window->pen = (attr_t)window->attrs << 8 | COLOR_PAIR(named_pair(window->screen, window->pair));
+    window->front.pen = (attr_t)window->attrs << 8 | COLOR_PAIR(named_pair(window->screen, window->pair));
     return window;
 }
 
@@ -285,12 +286,12 @@ static int number_read(uint32_t (*read)(huttavel *, uint32_t, uint32_t *, uint32
 
 int getcury(const WINDOW *window)
 {
-    return window ? window->cursor.row : ERR;
+    return window ? window->front.cursor.row : ERR;
 }
 
 int getcurx(const WINDOW *window)
 {
-    return window ? window->cursor.column : ERR;
+    return window ? window->front.cursor.column : ERR;
 }
 
 /* The row of the screen where a window begins, with the lines that are taken off; ERR of a pad. */
@@ -376,7 +377,7 @@ WINDOW *dupwin(WINDOW *window)
     }
     huttavel_background(handle_of(window), window->number, &background);
     huttavel_set_background(handle_of(copy), copy->number, background.byte, background.attrs, background.pair);
-    wattrset(copy, (int)window->pen);
+    wattrset(copy, (int)window->front.pen);
     huttavel_region(handle_of(window), window->number, &top, &bottom);
     huttavel_set_region(handle_of(copy), copy->number, top, bottom);
     scrollok(copy, window->is_scrolling);

@@ -290,6 +290,32 @@ static bool shows(huttavel *handle, uint32_t window, uint32_t row, uint32_t colu
            cell.attrs == attrs;
 }
 
+/* Reads cells side by side, of a first row that begins with `Abcd`. */
+static void reading_cells(huttavel *handle)
+{
+    huttavel_cell cells[6] = {{0, 0, 0}};
+    size_t count = 99;
+
+    IS(HUTTAVEL_OK, huttavel_cells(handle, 0, 0, 0, cells, 5, &count));
+    CHECK(count == 5 && cells[0].byte == 'A' && cells[0].attrs == (HUTTAVEL_REVERSE | HUTTAVEL_DIM) &&
+          cells[0].pair == 3);
+    CHECK(cells[3].byte == 'd' && cells[3].attrs == HUTTAVEL_REVERSE && cells[3].pair == 3);
+    CHECK(cells[4].byte == ' ' && cells[4].attrs == 0 && cells[4].pair == 0 && cells[5].byte == 0);
+    IS(HUTTAVEL_OK, huttavel_cells(handle, 0, 0, 2, cells, 6, NULL));
+    CHECK(cells[0].byte == 'c' && cells[1].byte == 'd' && cells[2].byte == ' ');
+    IS(HUTTAVEL_OK, huttavel_cells(handle, 0, 23, 78, cells, 6, &count));
+    CHECK(count == 2 && cells[1].byte == ' ' && cells[2].byte == ' ');
+    IS(HUTTAVEL_OK, huttavel_cells(handle, 0, 0, 0, NULL, 0, &count));
+    CHECK(count == 0);
+    IS(HUTTAVEL_BAD_LENGTH, huttavel_cells(handle, 77, 0, 0, NULL, 1, &count));
+    IS(HUTTAVEL_BAD_LENGTH, huttavel_cells(handle, 0, 0, 0, cells, SIZE_MAX, &count));
+    IS(HUTTAVEL_NO_WINDOW, huttavel_cells(handle, 77, 0, 0, cells, 6, &count));
+    IS(HUTTAVEL_OUT_OF_WINDOW, huttavel_cells(handle, 0, 24, 0, cells, 6, &count));
+    IS(HUTTAVEL_OUT_OF_WINDOW, huttavel_cells(handle, 0, 0, 80, cells, 6, &count));
+    IS(HUTTAVEL_CLOSED, huttavel_cells(NULL, 0, 0, 0, cells, 6, &count));
+    CHECK(count == 0 && cells[0].byte == ' ');
+}
+
 static void resizing(huttavel *handle)
 {
     uint32_t window = 9, sub = 9, pad = 9, row = 9, column = 9, top = 9, bottom = 9;
@@ -359,6 +385,7 @@ static void writing(huttavel *handle)
     IS(HUTTAVEL_BAD_LENGTH, huttavel_add_text(handle, 0, NULL, 3, NULL));
     IS(HUTTAVEL_OK, huttavel_cursor(handle, 0, &row, &column));
     CHECK(row == 0 && column == 4);
+    reading_cells(handle);
     IS(HUTTAVEL_OK, huttavel_move_cursor(handle, 0, 0, 1));
     IS(HUTTAVEL_OUT_OF_WINDOW, huttavel_move_cursor(handle, 0, 0, 80));
     IS(HUTTAVEL_OK, huttavel_insert_byte(handle, 0, 'x', 0));

@@ -153,9 +153,10 @@ static uint32_t read_any(huttavel *of)
     uint32_t one, two, *first = any(5) == 0 ? NULL : &one, *second = any(5) == 0 ? NULL : &two;
     bool on, *truth = any(5) == 0 ? NULL : &on;
     uint8_t attrs, *set_of = any(5) == 0 ? NULL : &attrs;
-    huttavel_cell cell, *seen = any(5) == 0 ? NULL : &cell;
+    huttavel_cell cell, *seen = any(5) == 0 ? NULL : &cell, row[40];
+    size_t count;
 
-    switch (any(21)) {
+    switch (any(22)) {
     case 0: return huttavel_screen_size(of, first, second);
     case 1: return huttavel_window_count(of, first);
     case 2: return huttavel_nth_window(of, number(), first);
@@ -176,6 +177,9 @@ static uint32_t read_any(huttavel *of)
     case 17: return huttavel_line_touched(of, window(), number(), truth);
     case 18: return huttavel_wanted_cell(of, number(), number(), seen);
     case 19: return huttavel_window_touched(of, window(), truth);
+    case 20:
+        return huttavel_cells(of, window(), number(), number(), any(5) == 0 ? NULL : row, any(41),
+                              any(5) == 0 ? NULL : &count);
     default: return huttavel_wanted_cursor(of, first, second);
     }
 }

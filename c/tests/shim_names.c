@@ -98,6 +98,55 @@ static bool has_text(WINDOW *window, int row, int column, const char *text, attr
     return true;
 }
 
+/* Cells are read several at a time: each is as the last change of any window left it. */
+static void reading_between_changes(void)
+{
+    static const char forty[] = "abcdefghijklmnopqrstuvwxyzABCDEFGHIJKLMN";
+    WINDOW *window = newwin(3, 40, 0, 0), *part = derwin(window, 1, 5, 1, 14), *other = newwin(3, 40, 0, 0);
+    chtype cells[41];
+    char text[41];
+
+    IS(OK, mvwaddstr(window, 1, 0, forty));
+    IS('k', mvwinch(window, 1, 10));
+    IS('l', mvwinch(window, 1, 11));
+    IS(OK, waddch(window, 'X'));
+    IS('X', mvwinch(window, 1, 11));
+    IS('m', mvwinch(window, 1, 12));
+    IS('o', mvwinch(part, 0, 0));
+    IS(OK, waddch(part, 'P'));
+    IS('P', mvwinch(window, 1, 14));
+    IS('p', mvwinch(window, 1, 15));
+    IS('q', mvwinch(window, 1, 16));
+    IS('N', mvwinch(window, 1, 39));
+    IS(' ', mvwinch(window, 2, 39));
+    IS(' ', mvwinch(other, 1, 39));
+    IS(OK, wnoutrefresh(window));
+    IS('N', mvwinch(window, 1, 39));
+    IS(OK, mvwdelch(window, 1, 38));
+    IS('N', mvwinch(window, 1, 38));
+    IS(' ', mvwinch(window, 1, 39));
+    IS(OK, werase(window));
+    IS(' ', mvwinch(window, 1, 38));
+    IS((chtype)ERR, mvwinch(window, 1, 40));
+    IS((chtype)ERR, winch(NULL));
+    /* More than are read at a time, up to the end of the line. */
+    IS(OK, mvwaddnstr(window, 0, 0, forty, 39));
+    IS(OK, mvwaddch(window, 0, 39, 'N' | A_BOLD));
+    IS(40, mvwinnstr(window, 0, 0, text, -1));
+    CHECK(strcmp(text, forty) == 0);
+    IS(17, mvwinnstr(window, 0, 3, text, 17));
+    CHECK(strcmp(text, "defghijklmnopqrst") == 0);
+    IS(OK, mvwinchstr(window, 0, 7, cells));
+    CHECK(cells[0] == 'h' && cells[31] == 'M' && cells[32] == ('N' | A_BOLD) && cells[33] == 0);
+    IS(OK, mvwinchnstr(window, 0, 0, cells, 16));
+    CHECK(cells[15] == 'p' && cells[16] == 0);
+    IS(OK, mvwinchnstr(window, 0, 0, cells, 0));
+    CHECK(cells[0] == 0);
+    IS(OK, delwin(other));
+    IS(OK, delwin(part));
+    IS(OK, delwin(window));
+}
+
 static void writing_cells(void)
 {
     const chtype cells[] = {'a' | A_BOLD, 'b', 'c' | COLOR_PAIR(3) | A_UNDERLINE, 0};
@@ -297,6 +346,16 @@ static void writing_side_by_side(void)
     CHECK(has_text(window, 0, 2, "r", A_BOLD | A_UNDERLINE | COLOR_PAIR(2)));
     CHECK(has_text(window, 0, 3, "s", A_BOLD | COLOR_PAIR(3)) && has_text(window, 0, 4, "t", 0));
     IS(ERR, wattrset(window, COLOR_PAIR(64)));
+    IS(ERR, wattrset(NULL, A_BOLD));
+    /* The functions, which are macros besides. */
+    IS(OK, (wattrset)(window, A_DIM));
+    IS((int)A_DIM, getattrs(window));
+    IS(ERR, (wattrset)(window, COLOR_PAIR(64)));
+    IS(OK, (attrset)(A_REVERSE));
+    IS((int)A_REVERSE, getattrs(stdscr));
+    IS(OK, attrset(A_NORMAL));
+    IS((int)A_NORMAL, getattrs(stdscr));
+    IS(OK, wattrset(window, A_NORMAL));
     IS(OK, touchwin(window));
     IS(OK, wnoutrefresh(window));
     /* A window is copied as it is, also when it was copied before; its cursor is that of the next update. */
@@ -950,6 +1009,7 @@ int main(void)
     keypad(stdscr, TRUE);
     timeout(2000);
     writing_cells();
+    reading_between_changes();
     changing_attributes();
     drawing();
     following_changes();

@@ -1,6 +1,6 @@
 -- Entries and parameter strings without a screen. terminfo(5), 'Parameterized Strings'; term(5).
-use Rattle.std.specs.Prelude.{ℕ, ℤ, pos, Bool, ◌≡◌, ◌⊎◌, ◌++◌, List, [], ◌∷◌, drop, length, min, replicate, take, Option, Some, None, IsSome}
-use Rattle.ti_caps.specs.Description.{Description, text_at}
+use Rattle.std.specs.Prelude.{ℕ, ℤ, pos, ◌≡◌, ◌⊎◌, ◌++◌, List, [], ◌∷◌, drop, length, min, replicate, take, Option, Some, None, IsSome}
+use Rattle.ti_caps.specs.Description.{Description}
 use Rattle.ti_caps.specs.declared.table.Kind.{Kind}
 use Rattle.ti_param.specs.Faults.{FaultOf}
 use Rattle.ti_param.specs.Grammar.{IsText}
@@ -10,9 +10,9 @@ use Rattle.ti_param.specs.Tree.{Tree, start, value}
 use Rattle.ti_param.specs.declared.faults.ParamFault.{ParamFault}
 use Rattle.ti_param.specs.declared.faults.ParamFault.TheVariants as texts
 use Rattle.huttavel_c.specs.Opening.{kind_number}
-use Rattle.huttavel_c.specs.Replies.{refused, with_one, with_two}
+use Rattle.huttavel_c.specs.Replies.{no_length, refused, with_one, with_two}
 use Rattle.huttavel_c.specs.declared.answers.Reply.{Reply}
-use Rattle.huttavel_c.specs.declared.entries.Length.{Length}
+use Rattle.huttavel_c.specs.declared.answers.Length.{Length}
 use Rattle.huttavel_c.specs.declared.entries.Numbers.{Numbers}
 use Rattle.huttavel_c.specs.declared.sessions.Described.{Described}
 
@@ -33,10 +33,6 @@ number_reply (Some number) = with_one number
 abbrev pub capability_reply : Option (Kind × ℕ) → Reply
 capability_reply None = refused 58
 capability_reply (Some capability) = with_two (kind_number capability.0, capability.1)
-
--- An error where a text is asked for.
-abbrev pub no_length : ℕ → Length
-no_length fault = record { fault = fault; count = 0 }
 
 -- A text is copied as far as there is room, and its length is told.
 abbrev pub IsCopied : List ℕ → List ℕ → List ℕ → Length → Type 0

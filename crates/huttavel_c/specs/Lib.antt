@@ -1,4 +1,5 @@
 pub mod Asking
+pub mod Copying
 pub mod Entries
 pub mod Families
 pub mod Following

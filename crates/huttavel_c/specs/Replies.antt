@@ -6,11 +6,21 @@ use Rattle.scr_windows.specs.declared.faults.Added.TheVariants.{Done, Stayed}
 use Rattle.scr_windows.specs.declared.faults.Win.{Win}
 use Rattle.scr_windows.specs.declared.faults.WinFault.{WinFault}
 use Rattle.huttavel_c.specs.Numbers.{window_number}
+use Rattle.huttavel_c.specs.declared.answers.GivenCell.{GivenCell}
+use Rattle.huttavel_c.specs.declared.answers.Length.{Length}
 use Rattle.huttavel_c.specs.declared.answers.Reply.{Reply}
 
 -- A refusal.
 abbrev pub refused : ℕ → Reply
 refused fault = record { fault = fault; first = 0; second = 0; third = 0 }
+
+-- A refusal of a call that gives a length.
+abbrev pub no_length : ℕ → Length
+no_length fault = record { fault = fault; count = 0 }
+
+-- A cell, as C has it.
+abbrev pub given_cell : CellView → GivenCell
+given_cell cell = record { byte = cell.byte; attrs = cell.attrs; pair = cell.pair }
 
 -- One number.
 abbrev pub with_one : ℕ → Reply

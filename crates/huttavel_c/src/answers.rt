@@ -1,6 +1,6 @@
 //! What a function of the C library gives: an error's number, or it and up to three numbers.
 ghost use Rattle.std.specs.Prelude.{◌≡◌, ℕ};
-ghost use Rattle.huttavel_c.specs.Replies.{added_reply, done_number, made_reply, pair_reply, refused, seen_reply, touched_reply, with_cell, with_one, with_two};
+ghost use Rattle.huttavel_c.specs.Replies.{added_reply, done_number, given_cell, made_reply, no_length, pair_reply, refused, seen_reply, touched_reply, with_cell, with_one, with_two};
 
 use crate::faults::window_number;
 use curses::{Added, Cell, Win, WinFault};
@@ -21,6 +21,35 @@ pub struct Reply {
     pub second: u32,
     /// The third number.
     pub third: u32,
+}
+
+/// A cell, as C has it.
+#[repr(C)]
+#[derive(Clone, Copy)]
+pub struct GivenCell {
+    /// The byte.
+    pub byte: u8,
+    /// The attributes.
+    pub attrs: u8,
+    /// The colour pair.
+    pub pair: u8,
+}
+
+/// An error's number, and how many bytes a text has, or how many cells were copied.
+#[repr(C)]
+#[derive(Clone, Copy)]
+pub struct Length {
+    /// The error's number.
+    pub fault: u32,
+    /// How many; 0 if it was refused.
+    pub count: usize,
+}
+
+/// A refusal of a call that gives a length.
+pub(crate) fn no_length(fault: u32) -> Length
+    ensures { result ≡ no_length fault }
+{
+    Length { fault, count: 0 }
 }
 
 /// A refusal.
@@ -68,6 +97,17 @@ pub(crate) fn three(cell: Cell) -> Reply
         first: u32::from(cell.byte()),
         second: u32::from(cell.attrs().0),
         third: cell.pair(),
+    }
+}
+
+/// A cell, as C has it.
+pub(crate) fn given(cell: Cell) -> GivenCell
+    ensures { result ≡ given_cell cell }
+{
+    GivenCell {
+        byte: cell.byte(),
+        attrs: cell.attrs().0,
+        pair: cell.pair() as u8,
     }
 }
 

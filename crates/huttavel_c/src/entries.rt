@@ -6,11 +6,11 @@ ghost use Rattle.ti_caps.specs.Table.{capability_of};
 ghost use Rattle.ti_database.specs.Search.{IsEntry};
 ghost use Rattle.ti_param.specs.Tree.{start, value};
 ghost use Rattle.huttavel_c.specs.Asking.{MakesOfEntry, OfEntry};
-ghost use Rattle.huttavel_c.specs.Entries.{CopiesText, Expands, IsCopied, IsCopiedIfAny, IsFresh, IsRun, Tells, capability_reply, list_of, no_length, number_reply, param_number};
+ghost use Rattle.huttavel_c.specs.Entries.{CopiesText, Expands, IsCopied, IsCopiedIfAny, IsFresh, IsRun, Tells, capability_reply, list_of, number_reply, param_number};
 ghost use Rattle.huttavel_c.specs.Opening.{IsNoEntryOrMemory, IsNoMemory, Opens};
-ghost use Rattle.huttavel_c.specs.Replies.{as_number, refused, with_one};
+ghost use Rattle.huttavel_c.specs.Replies.{as_number, no_length, refused, with_one};
 
-use crate::answers::{Reply, one, refused, two};
+use crate::answers::{Length, Reply, no_length, one, refused, two};
 use crate::faults::{ABSENT, CLOSED, IS_OPEN, NO_MEMORY, STACK_FULL, param_number};
 use crate::handles::Handle;
 use crate::opening::{boxed, bundled_entry, entry_of, keep, kind_number};
@@ -20,16 +20,6 @@ use curses::{Entry, Slot};
 use std::alloc::Global;
 use ti_caps::find_name;
 use ti_param::{Program, RunFault, Vars};
-
-/// An error's number, and how many bytes a text has.
-#[repr(C)]
-#[derive(Clone, Copy)]
-pub struct Length {
-    /// The error's number.
-    pub fault: u32,
-    /// How many bytes; 0 if it was refused.
-    pub count: usize,
-}
 
 /// The nine parameters of a text.
 #[repr(C)]
@@ -53,13 +43,6 @@ pub struct Numbers {
     pub eighth: i32,
     /// `%p9`.
     pub ninth: i32,
-}
-
-// An error where a text is asked for.
-fn no_length(fault: u32) -> Length
-    ensures { result ≡ no_length fault }
-{
-    Length { fault, count: 0 }
 }
 
 // An entry with all variables 0, to be held.

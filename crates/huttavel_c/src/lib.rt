@@ -15,6 +15,6 @@ mod parts;
 mod sending;
 mod sessions;
 
-pub use answers::Reply;
-pub use entries::{Length, Numbers};
+pub use answers::{GivenCell, Length, Reply};
+pub use entries::Numbers;
 pub use handles::Handle;
