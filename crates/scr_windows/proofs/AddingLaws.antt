@@ -1,5 +1,5 @@
 -- Adding bytes keeps the size of the screen, and a window on its surface.
-use Rattle.std.proofs.Common.{◌≡◌, ℕ, ◌<◌, ◌∙◌, ap, refl, sym, List, [], ◌∷◌, length, arith, Bool, true, false, ◌-◌, ◌==◌, ◌||◌, ltb, get_or, if◌then◌else◌}
+use Rattle.std.proofs.Common.{◌≡◌, ℕ, ◌<◌, ◌∙◌, ap, refl, subst, sym, List, [], ◌∷◌, length, arith, Bool, true, false, ◌-◌, ◌==◌, ◌||◌, ltb, get_or, if◌then◌else◌}
 use Rattle.std.specs.Prelude.{slice_set}
 use Rattle.std.proofs.lemmas.List.{get_or-set_same, length-set}
 use Rattle.scr_cells.specs.CellViews.{CellView}
@@ -93,3 +93,12 @@ character_stays d i s byte attrs here is = (character_on d i s byte attrs (here,
 
 pub byte_stays : (d : DeskView) (i s byte : ℕ) (attrs : Attrs) → i < length d.windows → IsSheetOf d i s → IsSheetOf (byte_added d i byte attrs).0 i s
 byte_stays d i s byte attrs here is = (byte_on d i s byte attrs (here, is)).1
+
+text_on : (bytes : List ℕ) (d : DeskView) (i s : ℕ) → On d i s → On (text_added d i bytes).0 i s
+text_on [] d i s h = h
+text_on (byte ∷ bytes) d i s h = text_on bytes (byte_added d i byte no_attributes).0 i s (byte_on d i s byte no_attributes h)
+
+pub text_stays : (d new : DeskView) (i s : ℕ) (bytes : List ℕ) (answer : Added) → i < length d.windows → IsSheetOf d i s → ◌≡◌ {A = DeskView × Added} (new, answer) (text_added d i bytes) → (i < length new.windows) × IsSheetOf new i s
+text_stays d new i s bytes answer here is e =
+    let P : DeskView × Added → Type 0 = λ r. On r.0 i s in
+    subst P (sym e) (text_on bytes d i s (here, is))

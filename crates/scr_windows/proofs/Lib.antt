@@ -24,4 +24,5 @@ pub mod RunLaws
 pub mod SheetLaws
 pub mod ShiftLaws
 pub mod SyncLaws
+pub mod TextLaws
 pub mod WrittenLaws

@@ -3,3 +3,4 @@ pub mod Families
 pub mod NewFrames
 pub mod Canvases
 pub mod Steps
+pub mod Stretches

@@ -2,22 +2,25 @@
 //!
 //! A *surface* is a grid of cells that windows share, and an *area* is the part of it that a window has. A *drawing*
 //! changes cells of an area and no others.
-ghost use Rattle.std.specs.Prelude.{◌≡◌, ◌+◌, ◌<◌, length, map, IfOk};
+ghost use Rattle.std.specs.Prelude.{◌≡◌, ◌+◌, ◌<◌, ◌≤◌, length, map, IfOk};
 ghost use Rattle.std.specs.List.{range_with_len};
 ghost use Rattle.scr_windows.specs.Surfaces.SurfaceViews.{IsPart, IsSurface, IsSurfaceSize, blank_surface, filled, inside_at};
 ghost use Rattle.scr_windows.specs.Surfaces.Drawings.{IsFitting, drawn};
 ghost use Rattle.scr_windows.specs.Surfaces.Formulas.{run_put};
+ghost use Rattle.scr_windows.specs.Code.Stretches.{characters_first, forms_from, row_laid};
 
 mod areas;
 mod borders;
 mod changes;
 mod copies;
 mod drawings;
+mod forms;
 mod rows;
 
 pub use areas::Area;
 pub use borders::Border;
 pub use drawings::Drawing;
+pub use forms::Forms;
 use scr_cells::{Cell, Grid, NoMemory, grid_laws};
 use std::alloc::Global;
 use std::marker::Model;
@@ -85,6 +88,27 @@ impl Surface {
         // The drawings are proved from what holds of every surface.
         let _ = self.size();
         self.put_place(area.top + row, area.left + column, cell);
+    }
+
+    /// Writes the characters that a text begins with into a row of an area, from a column on. The row has room for all
+    /// of the text. Gives how many they are. Every other place stays.
+    pub fn write_text(
+        &mut self,
+        area: Area,
+        row: u32,
+        column: u32,
+        text: &[u8],
+        forms: &Forms,
+    ) -> usize
+        requires part { IsPart self.old area }
+        requires row { row < area.rows }
+        requires end { column + length text.now ≤ area.columns }
+        ensures count { result ≡ characters_first text.now }
+        ensures cells { self.new ≡ filled self.old area (row_laid row column (column + result) (forms_from forms.now column text.now) (inside_at self.old area)) }
+    {
+        // The drawings are proved from what holds of every surface.
+        let _ = self.size();
+        self.write_row(area.top + row, area.left + column, text, forms)
     }
 
     /// Draws in an area, which has the places that the drawing names. Every place outside the area stays.

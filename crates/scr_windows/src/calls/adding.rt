@@ -1,18 +1,22 @@
 //! Calls that add bytes: a byte, a text, an inserted byte, and lines of one byte.
 //!
-//! The definitions are in `specs/Calls/Adding.antt`; what is drawn for them is a matter of `surfaces`. What every
-//! character needs is inlined, and what ends a line or is rare is called, so that adding a text is one short loop.
-ghost use Rattle.std.specs.Prelude.{◌≡◌, ◌+◌, ◌<◌, ◌≤◌, ◌⊎◌, length, leb, min, false};
+//! The definitions are in `specs/Calls/Adding.antt`; what is drawn for them is a matter of `surfaces`. The characters of
+//! a text are written a stretch at a time, as far as a line takes them before its last column. What every stretch needs
+//! is inlined, and what ends a line or is rare is called.
+ghost use Rattle.std.specs.Prelude.{◌≡◌, ◌+◌, ◌<◌, ◌≤◌, ◌⊎◌, length, take, drop, leb, min, false};
 ghost use Rattle.std.specs.List.{list_any};
 ghost use Rattle.scr_cells.specs.CellViews.{IsPair};
-ghost use Rattle.scr_windows.specs.DeskViews.{HasSameSize, window_at};
+ghost use Rattle.scr_windows.specs.DeskViews.{HasSameSize, no_attributes, window_at};
 ghost use Rattle.scr_windows.specs.Code.Canvases.{IsSheetOf};
+ghost use Rattle.scr_windows.specs.Code.Stretches.{characters_first};
+ghost use Rattle.scr_windows.specs.declared.faults.Added.TheVariants.{Done};
 ghost use Rattle.scr_windows.specs.Calls.Adding.{written_form, gone_to, line_begun, character_added, newline_added, tab_added, either_stayed, shown_added, byte_added, text_added, add_byte_call, add_text_call, insert_byte_call, line_across_call, line_down_call};
 
 use crate::desks::Desk;
 use crate::faults::{Added, Win, WinFault};
 use crate::frames::WindowState;
-use crate::surfaces::Drawing;
+use crate::laws::surface_laws;
+use crate::surfaces::{Drawing, Forms};
 use bitflags::Flags;
 use scr_cells::{Attrs, Cell, is_character};
 
@@ -129,11 +133,56 @@ impl Desk {
     {
         let sheet = self.sheet_of(index);
         let mut all = Added::Done;
-        for byte in text {
-            let one = self.add_at(index, sheet, *byte, Attrs(0));
-            all = either(all, one);
+        let mut at = 0;
+        while at < text.len() {
+            let (count, some) = self.add_some(index, sheet, text, at);
+            all = either(all, some);
+            at += count;
         }
         all
+    }
+
+    // Adds bytes of a text, from one on, to the window at an index, which is on this surface: a stretch of characters
+    // that the line takes before its last column, or else one byte. Gives how many.
+    #[inline(always)]
+    fn add_some(&mut self, index: usize, sheet: usize, text: &[u8], at: usize) -> (usize, Added)
+        requires here { index < length self.old.windows }
+        requires sheet { IsSheetOf self.old index sheet }
+        requires at { at < length text.now }
+        requires ascii { list_any (λ byte. leb 128 byte) text.now ≡ false }
+        ensures some { 1 ≤ result.0 }
+        ensures within { at + result.0 ≤ length text.now }
+        ensures added { (self.new, result.1) ≡ text_added self.old index (take result.0 (drop at text.now)) }
+        ensures there { index < length self.new.windows }
+        ensures sheet { IsSheetOf self.new index sheet }
+    {
+        let canvas = self.canvas_at(index);
+        let room = (canvas.area.columns - 1 - canvas.state.cursor.1) as usize;
+        let end = at + room.min(text.len() - at);
+        if at < end && is_character(text[at]) {
+            return (self.add_stretch(index, sheet, &text[at..end]), Added::Done);
+        }
+        (1, self.add_at(index, sheet, text[at], Attrs(0)))
+    }
+
+    // Adds the characters that a text begins with to the window at an index, which is on this surface. They end before
+    // the line's last column. Gives how many they are.
+    #[inline(always)]
+    fn add_stretch(&mut self, index: usize, sheet: usize, text: &[u8]) -> usize
+        requires here { index < length self.old.windows }
+        requires sheet { IsSheetOf self.old index sheet }
+        requires some { 1 ≤ characters_first text.now }
+        requires room { (window_at self.old index).state.cursor.1 + length text.now < (window_at self.old index).frame.area.columns }
+        ensures count { result ≡ characters_first text.now }
+        ensures added { (self.new, Done) ≡ text_added self.old index (take result text.now) }
+    {
+        surface_laws();
+        let state = self.window_at(index).state();
+        let forms = forms_of(&state);
+        let (row, column) = state.cursor;
+        let count = self.put_text(index, sheet, (row, column), text, &forms);
+        self.set_cursor(index, row, column + count as u32);
+        count
     }
 
     // Adds a byte below 128 to the window at an index, which is on this surface.
@@ -297,6 +346,19 @@ pub(crate) fn written_form(byte: u8, attrs: Attrs, state: WindowState) -> Cell
         state.pair
     };
     Cell::paired(shown, all, pair).unwrap_or(Cell::blank())
+}
+
+// The written forms of characters without attributes of their own.
+#[inline(always)]
+fn forms_of(state: &WindowState) -> Forms
+    requires { IsPair state.now.pair }
+    ensures blank { result.blank ≡ written_form 32 no_attributes state.now }
+    ensures letter { result.letter ≡ written_form 33 no_attributes state.now }
+{
+    Forms {
+        blank: written_form(b' ', Attrs(0), *state),
+        letter: written_form(b'!', Attrs(0), *state),
+    }
 }
 
 // Stayed if either is.

@@ -1,15 +1,18 @@
-use Rattle.std.proofs.Common.{arith, subst, sym}
-use Rattle.std.proofs.lemmas.Grind.{common_steps}
+use Rattle.std.proofs.Common.{◌+◌, ◌∙◌, ap, arith, drop}
 use Rattle.scr_windows.specs.declared.faults.Added.{Added}
-use Rattle.scr_windows.specs.DeskViews.{DeskView}
-use Rattle.scr_windows.specs.Code.Canvases.{IsSheetOf}
-use Rattle.scr_windows.proofs.AddingLaws.{byte_stays}
+use Rattle.scr_windows.specs.Calls.Adding.{either_stayed, text_added}
+use Rattle.scr_windows.proofs.TextLaws.{added_more}
 use Rattle.scr_windows.proofs.desks.Desk.add_all.Goals as goal
 
-pub loop-byte-preserved : goal.loop-byte-preserved
-loop-byte-preserved c = record {
-  here = c.add_at-one.ensures.there;
-  sheet = subst (λ (d : DeskView × Added). IsSheetOf d.0 c.args.index c.sheet_of-sheet.result) (sym c.add_at-one.ensures.added) (byte_stays _ c.args.index _ _ _ c.loop-byte.invariant.here c.loop-byte.invariant.sheet);
-  desk = grind (arith, common_steps);
-  answer = grind (arith, common_steps);
-}
+pub loop-at-preserved : goal.loop-at-preserved
+loop-at-preserved c =
+    let rest = drop (c.loop-at.at + c.add_some-count.result.0) c.args.text.now in
+    let more = added_more c.loop-at.self c.add_some-count.new.self c.args.self.now c.args.index c.loop-at.at c.add_some-count.result.0 c.loop-at.all c.add_some-count.result.1 c.args.text.now c.add_some-count.ensures.added
+    c.loop-at.invariant.desk c.loop-at.invariant.answer in
+    record {
+      within = c.add_some-count.ensures.within;
+      here = c.add_some-count.ensures.there;
+      sheet = c.add_some-count.ensures.sheet;
+      desk = more.0;
+      answer = ap (λ (all : Added). either_stayed all (text_added c.add_some-count.new.self c.args.index rest).1) c.either-all.ensures ∙ more.1;
+    }
