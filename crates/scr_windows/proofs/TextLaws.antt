@@ -3,7 +3,7 @@ use Rattle.std.proofs.Common.{◌≡◌, ℕ, zero, suc, ◌+◌, ◌-◌, ◌<�
 use Rattle.std.specs.Prelude.{slice_set}
 use Rattle.std.specs.List.{range_with_len}
 use Rattle.std.proofs.lemmas.Bool.Decides.{nat_tests}
-use Rattle.std.proofs.lemmas.List.{drop-drop, get_or-drop, get_or-set_same, get_or-take, length-drop, length-set, length-take, length-take-le, set-set, take-append-drop, take-take, take_all}
+use Rattle.std.proofs.lemmas.List.{drop-drop, drop_more, get_or-drop, get_or-set_same, get_or-take, length-drop, length-set, length-take, length-take-le, set-set, take-append-drop, take-take, take_all}
 use Rattle.std.proofs.lemmas.List.FromFn.{get_or-map-range_with_len, length-map-range_with_len}
 use Rattle.scr_cells.specs.CellViews.{CellView, blank_cell, is_character}
 use Rattle.scr_cells.specs.Grids.{GridLaws, GridView, grid_with_run}
@@ -14,7 +14,6 @@ use Rattle.scr_windows.specs.declared.faults.Added.TheVariants.{Done, Stayed}
 use Rattle.scr_windows.specs.declared.frames.WindowState.{WindowState}
 use Rattle.scr_windows.specs.declared.sheets.Sheet.{Sheet}
 use Rattle.scr_windows.specs.declared.surfaces.areas.Area.{Area}
-use Rattle.scr_windows.specs.declared.surfaces.forms.Forms.{Forms}
 use Rattle.scr_windows.specs.Surfaces.Formulas.{run_put}
 use Rattle.scr_windows.specs.Surfaces.SurfaceLaws.{SurfaceLaws}
 use Rattle.scr_windows.specs.Surfaces.SurfaceViews.{SurfaceView, IsPart, IsSurface, cell_of, filled, inside_at, is_inside}
@@ -24,7 +23,7 @@ use Rattle.scr_windows.specs.Changes.{fill, marked, marked_lines, with_window, w
 use Rattle.scr_windows.specs.Calls.Adding.{byte_added, character_added, either_stayed, gone_to, line_begun, text_added, written_form}
 use Rattle.scr_windows.specs.Calls.Settings.{cursor_at}
 use Rattle.scr_windows.specs.Code.Steps.{Changes, RunIs}
-use Rattle.scr_windows.specs.Code.Stretches.{characters_first, form_of, forms_from, row_laid, shown_as}
+use Rattle.scr_windows.specs.Code.Stretches.{characters_first, form_of, forms_from, row_laid, cell_beside}
 use Rattle.scr_windows.proofs.ChangeLaws.{run_at}
 use Rattle.scr_windows.proofs.FilledLaws.{map_range}
 use Rattle.scr_windows.proofs.RunLaws.{run_of, surface_of, then_run, unchanged}
@@ -40,60 +39,60 @@ first_fits (byte ∷ text) = by (is_character byte) (first_fits text)
     by true h = omega (arith, h)
     by false h = omega arith
 
-made_are : (forms : Forms) (text : List ℕ) → length (made_while (form_of forms.blank forms.letter) text) ≡ characters_first text
-made_are forms [] = refl
-made_are forms (byte ∷ text) = by (is_character byte) (made_are forms text)
+made_are : (blank : CellView) (text : List ℕ) → length (made_while (form_of blank) text) ≡ characters_first text
+made_are blank [] = refl
+made_are blank (byte ∷ text) = by (is_character byte) (made_are blank text)
   where
-    by : (t : Bool) → length (made_while (form_of forms.blank forms.letter) text) ≡ characters_first text
-        → length (before (cond t (Some (shown_as forms.blank forms.letter byte)) None) (made_while (form_of forms.blank forms.letter) text)) ≡ cond t (suc (characters_first text)) 0
+    by : (t : Bool) → length (made_while (form_of blank) text) ≡ characters_first text
+        → length (before (cond t (Some (cell_beside blank byte)) None) (made_while (form_of blank) text)) ≡ cond t (suc (characters_first text)) 0
     by true h = ap suc h
     by false h = refl
 
-made_at : (forms : Forms) (text : List ℕ) (k : ℕ) → k < length (made_while (form_of forms.blank forms.letter) text)
-    → get_or (made_while (form_of forms.blank forms.letter) text) k blank_cell ≡ shown_as forms.blank forms.letter (get_or text k 0)
-made_at forms [] k h = absurd (omega (arith, h))
-made_at forms (byte ∷ text) k h = by (is_character byte) k h (λ n. made_at forms text n)
+made_at : (blank : CellView) (text : List ℕ) (k : ℕ) → k < length (made_while (form_of blank) text)
+    → get_or (made_while (form_of blank) text) k blank_cell ≡ cell_beside blank (get_or text k 0)
+made_at blank [] k h = absurd (omega (arith, h))
+made_at blank (byte ∷ text) k h = by (is_character byte) k h (λ n. made_at blank text n)
   where
     run : List CellView
-    run = made_while (form_of forms.blank forms.letter) text
+    run = made_while (form_of blank) text
 
-    by : (t : Bool) (k : ℕ) → k < length (before (cond t (Some (shown_as forms.blank forms.letter byte)) None) run)
-        → ((n : ℕ) → n < length run → get_or run n blank_cell ≡ shown_as forms.blank forms.letter (get_or text n 0))
-        → get_or (before (cond t (Some (shown_as forms.blank forms.letter byte)) None) run) k blank_cell ≡ shown_as forms.blank forms.letter (get_or (byte ∷ text) k 0)
+    by : (t : Bool) (k : ℕ) → k < length (before (cond t (Some (cell_beside blank byte)) None) run)
+        → ((n : ℕ) → n < length run → get_or run n blank_cell ≡ cell_beside blank (get_or text n 0))
+        → get_or (before (cond t (Some (cell_beside blank byte)) None) run) k blank_cell ≡ cell_beside blank (get_or (byte ∷ text) k 0)
     by false k h rest = absurd (omega (arith, h))
     by true zero h rest = refl
     by true (suc k) h rest = rest k (omega (arith, h))
 
 -- a row of a surface with these cells
-pub text_run : GridLaws CellView → (g new : GridView CellView) (s : SurfaceView) (row from count : ℕ) (text : List ℕ) (forms : Forms)
+pub text_run : GridLaws CellView → (g new : GridView CellView) (s : SurfaceView) (row from count : ℕ) (text : List ℕ) (blank : CellView)
     → surface_of g ≡ s → IsSurface (surface_of g) → count ≡ characters_first text
-    → new ≡ record g { lines = grid_with_run g.lines row from (made_while (form_of forms.blank forms.letter) (take (g.columns - from) text)) }
-    → row < s.rows → from + length text ≤ s.columns → RunIs s (surface_of new) row from (from + count) (forms_from forms from text)
-text_run laws g new s row from count text forms is surface count_is new_is row_in end_in =
-    let run : List CellView = made_while (form_of forms.blank forms.letter) text in
+    → new ≡ record g { lines = grid_with_run g.lines row from (made_while (form_of blank) (take (g.columns - from) text)) }
+    → row < s.rows → from + length text ≤ s.columns → RunIs s (surface_of new) row from (from + count) (forms_from blank from text)
+text_run laws g new s row from count text blank is surface count_is new_is row_in end_in =
+    let run : List CellView = made_while (form_of blank) text in
     let wide : g.columns ≡ s.columns = ap (λ (v : SurfaceView). v.columns) is in
     let all : take (g.columns - from) text ≡ text = take_all (g.columns - from) text (omega arith) in
-    let many : length run ≡ characters_first text = made_are forms text in
+    let many : length run ≡ characters_first text = made_are blank text in
     let few = first_fits text in
-    run_of laws g new s row from (from + count) run (forms_from forms from text) is surface
-    (new_is ∙ ap (λ xs. record g { lines = grid_with_run g.lines row from (made_while (form_of forms.blank forms.letter) xs) }) all)
+    run_of laws g new s row from (from + count) run (forms_from blank from text) is surface
+    (new_is ∙ ap (λ xs. record g { lines = grid_with_run g.lines row from (made_while (form_of blank) xs) }) all)
     row_in (omega arith) (omega arith)
-    (λ k h. let e : k ≡ from + k - from = omega arith in made_at forms text k h ∙ ap (λ n. shown_as forms.blank forms.letter (get_or text n 0)) e)
+    (λ k h. let e : k ≡ from + k - from = omega arith in made_at blank text k h ∙ ap (λ n. cell_beside blank (get_or text n 0)) e)
 
-pub text_count : (columns from n : ℕ) (text : List ℕ) (forms : Forms) → from + length text ≤ columns → n ≡ length (made_while (form_of forms.blank forms.letter) (take (columns - from) text)) → n ≡ characters_first text
-text_count columns from n text forms end_in is =
-    is ∙ ap (λ xs. length (made_while (form_of forms.blank forms.letter) xs)) (take_all (columns - from) text (omega arith)) ∙ made_are forms text
+pub text_count : (columns from n : ℕ) (text : List ℕ) (blank : CellView) → from + length text ≤ columns → n ≡ length (made_while (form_of blank) (take (columns - from) text)) → n ≡ characters_first text
+text_count columns from n text blank end_in is =
+    is ∙ ap (λ xs. length (made_while (form_of blank) xs)) (take_all (columns - from) text (omega arith)) ∙ made_are blank text
 
 -- a row of an area with these cells
-pub text_laid : (old new : SurfaceView) (area : Area) (row column count : ℕ) (text : List ℕ) (forms : Forms) → IsSurface old → IsPart old area → row < area.rows → column + count ≤ area.columns
-    → RunIs old new (area.top + row) (area.left + column) (area.left + column + count) (forms_from forms (area.left + column) text)
-    → Changes old new area (row_laid row column (column + count) (forms_from forms column text))
-text_laid old new area row column count text forms surface part row_in end_in run =
+pub text_laid : (old new : SurfaceView) (area : Area) (row column count : ℕ) (text : List ℕ) (blank : CellView) → IsSurface old → IsPart old area → row < area.rows → column + count ≤ area.columns
+    → RunIs old new (area.top + row) (area.left + column) (area.left + column + count) (forms_from blank (area.left + column) text)
+    → Changes old new area (row_laid row column (column + count) (forms_from blank column text))
+text_laid old new area row column count text blank surface part row_in end_in run =
     let e : area.left + column + count ≡ area.left + (column + count) = omega arith in
-    then_run old old new area (λ at. at) (row_laid row column (column + count) (forms_from forms column text)) row column (column + count) (forms_from forms (area.left + column) text) part
+    then_run old old new area (λ at. at) (row_laid row column (column + count) (forms_from blank column text)) row column (column + count) (forms_from blank (area.left + column) text) part
     (unchanged old area (λ at. at) surface (λ r c h k. refl)) (run_at _ _ refl e run) row_in end_in
     (λ r c h k. let e : area.left + c - (area.left + column) ≡ c - column = omega arith in
-    ap (λ n. cond (r == row && leb column c && ltb c (column + count)) (shown_as forms.blank forms.letter (get_or text n 0)) (inside_at old area r c)) e)
+    ap (λ n. cond (r == row && leb column c && ltb c (column + count)) (cell_beside blank (get_or text n 0)) (inside_at old area r c)) e)
 
 -- ---- a text in two parts
 
@@ -122,7 +121,7 @@ text_split (byte ∷ s) rest d i =
     = (λ j. (last.0, either_more first.1 more.1 last.1 j)) in
     one ∙ two
 
-pub one_text : (d : DeskView) (i byte : ℕ) → text_added d i (byte ∷ []) ≡ byte_added d i byte no_attributes
+one_text : (d : DeskView) (i byte : ℕ) → text_added d i (byte ∷ []) ≡ byte_added d i byte no_attributes
 one_text d i byte =
     let first : DeskView × Added = byte_added d i byte no_attributes in
     (λ j. (first.0, either_done first.1 j))
@@ -355,37 +354,34 @@ stretch_laid laws (byte ∷ text) d i value h some room cells = by (is_character
         let rest = rest_laid laws text d i (x + 1) value h (omega arith) (omega arith) (λ k. let e : x + 1 + k ≡ x + suc k = omega arith in ap value e ∙ cells (suc k)) in
         (λ j. then_added (first j) i (take n text)) ∙ rest ∙ (λ j. (laid_desk d i (e j) value, Done))
 
--- the cells of characters that are written alike are their written forms
-shown_is_written : (forms : Forms) (state : WindowState) (byte : ℕ) → forms.blank ≡ written_form 32 no_attributes state → forms.letter ≡ written_form 33 no_attributes state
-    → shown_as forms.blank forms.letter byte ≡ written_form byte no_attributes state
-shown_is_written forms state byte blank letter =
-    (λ j. shown_as (blank j) (letter j) byte) ∙ by (byte == 32)
+-- the cells of characters beside the written form of a blank are their written forms
+beside_is_written : (state : WindowState) (byte : ℕ) → cell_beside (written_form 32 no_attributes state) byte ≡ written_form byte no_attributes state
+beside_is_written state byte = by (byte == 32)
   where
-    by : (t : Bool) → cond t (written_form 32 no_attributes state) (record (written_form 33 no_attributes state) { byte = byte }) ≡ record (written_form 33 no_attributes state) { byte = cond t state.background.byte byte }
+    by : (t : Bool) → cond t (written_form 32 no_attributes state) (record (written_form 32 no_attributes state) { byte = byte }) ≡ record (written_form 32 no_attributes state) { byte = cond t state.background.byte byte }
     by true = refl
     by false = refl
 
 -- a stretch that is written in one go is its characters one after another
-pub stretch_added : SurfaceLaws → (d put new : DeskView) (i count : ℕ) (text : List ℕ) (forms : Forms) (state : WindowState) → IsThere d i → state ≡ (window_at d i).state → 1 ≤ characters_first text
+pub stretch_added : SurfaceLaws → (d put new : DeskView) (i count : ℕ) (text : List ℕ) (blank : CellView) (state : WindowState) → IsThere d i → state ≡ (window_at d i).state → 1 ≤ characters_first text
     → (window_at d i).state.cursor.1 + length text < (window_at d i).frame.area.columns
-    → forms.blank ≡ written_form 32 no_attributes state → forms.letter ≡ written_form 33 no_attributes state → count ≡ characters_first text
-    → put ≡ write d i state.cursor.0 (state.cursor.0 + 1) (row_laid state.cursor.0 state.cursor.1 (state.cursor.1 + count) (forms_from forms state.cursor.1 text))
+    → blank ≡ written_form 32 no_attributes state → count ≡ characters_first text
+    → put ≡ write d i state.cursor.0 (state.cursor.0 + 1) (row_laid state.cursor.0 state.cursor.1 (state.cursor.1 + count) (forms_from blank state.cursor.1 text))
     → new ≡ (gone_to put i (state.cursor.0, state.cursor.1 + count)).0
     → ◌≡◌ {A = DeskView × Added} (new, Done) (text_added d i (take count text))
-stretch_added laws d put new i count text forms state h is some room blank letter count_is put_is new_is =
-    let y : ℕ = (window_at d i).state.cursor.0 in
-    let x : ℕ = (window_at d i).state.cursor.1 in
-    let value : ℕ → CellView = forms_from forms x text in
+stretch_added laws d put new i count text blank state h is some room blank_is count_is put_is new_is =
+    let w : WindowState = (window_at d i).state in
+    let x : ℕ = w.cursor.1 in
+    let value : ℕ → CellView = forms_from blank x text in
     let n : ℕ = characters_first text in
     let here : new ≡ laid_desk d i (x + count) value
     = new_is ∙ ap (λ v. (gone_to v i (state.cursor.0, state.cursor.1 + count)).0) put_is
-    ∙ ap (λ (st : WindowState). (gone_to (write d i st.cursor.0 (st.cursor.0 + 1) (row_laid st.cursor.0 st.cursor.1 (st.cursor.1 + count) (forms_from forms st.cursor.1 text))) i (st.cursor.0, st.cursor.1 + count)).0) is
-    ∙ written_desk d i (x + count) (row_laid y x (x + count) value) h.here in
+    ∙ ap (λ (st : WindowState). (gone_to (write d i st.cursor.0 (st.cursor.0 + 1) (row_laid st.cursor.0 st.cursor.1 (st.cursor.1 + count) (forms_from blank st.cursor.1 text))) i (st.cursor.0, st.cursor.1 + count)).0) is
+    ∙ written_desk d i (x + count) (row_laid w.cursor.0 x (x + count) value) h.here in
     let all : ◌≡◌ {A = DeskView × Added} (text_added d i (take n text)) (laid_desk d i (x + n) value, Done)
     = stretch_laid laws text d i value h some room (λ k.
     let e : x + k - x ≡ k = omega arith in
-    ap (λ a. shown_as forms.blank forms.letter (get_or text a 0)) e
-    ∙ shown_is_written forms (window_at d i).state (get_or text k 0) (blank ∙ ap (written_form 32 no_attributes) is) (letter ∙ ap (written_form 33 no_attributes) is)) in
+    (λ j. cell_beside ((blank_is ∙ ap (written_form 32 no_attributes) is) j) (get_or text (e j) 0)) ∙ beside_is_written w (get_or text k 0)) in
     (λ j. (here j, Done)) ∙ (λ j. (laid_desk d i (x + count_is j) value, Done)) ∙ sym all ∙ ap (λ n. text_added d i (take n text)) (sym count_is)
 
 -- ---- a part of a text

@@ -12,7 +12,7 @@ ghost use Rattle.scr_windows.specs.Changes.{write};
 use crate::desks::Desk;
 use crate::laws::surface_laws;
 use crate::sheets::index_of_sheet;
-use crate::surfaces::{Drawing, Forms};
+use crate::surfaces::Drawing;
 use scr_cells::Cell;
 
 impl Desk {
@@ -62,7 +62,8 @@ impl Desk {
     }
 
     // Writes the characters that a text begins with from a place of the window at an index on, which is on this
-    // surface, and touches the line. The line has room for all of the text. Gives how many they are.
+    // surface, as cells like that of a blank, and touches the line. The line has room for all of the text. Gives how
+    // many they are.
     #[inline(always)]
     pub(crate) fn put_text(
         &mut self,
@@ -70,14 +71,14 @@ impl Desk {
         sheet: usize,
         place: (u32, u32),
         text: &[u8],
-        forms: &Forms,
+        blank: Cell,
     ) -> usize
         requires here { index < length self.old.windows }
         requires sheet { IsSheetOf self.old index sheet }
         requires row { place.0 < (window_at self.old index).frame.area.rows }
         requires fits { place.1 + length text.now ≤ (window_at self.old index).frame.area.columns }
         ensures count { result ≡ characters_first text.now }
-        ensures put { self.new ≡ write self.old index place.0 (place.0 + 1) (row_laid place.0 place.1 (place.1 + result) (forms_from forms.now place.1 text.now)) }
+        ensures put { self.new ≡ write self.old index place.0 (place.0 + 1) (row_laid place.0 place.1 (place.1 + result) (forms_from blank place.1 text.now)) }
         ensures kept { IsKept self.old self.new index }
     {
         let (row, column) = place;
@@ -87,7 +88,7 @@ impl Desk {
         surface_laws();
         self.surfaces[sheet]
             .surface
-            .write_text(frame.area, row, column, text, forms)
+            .write_text(frame.area, row, column, text, blank)
     }
 }
 

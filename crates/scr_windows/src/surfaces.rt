@@ -14,13 +14,11 @@ mod borders;
 mod changes;
 mod copies;
 mod drawings;
-mod forms;
 mod rows;
 
 pub use areas::Area;
 pub use borders::Border;
 pub use drawings::Drawing;
-pub use forms::Forms;
 use scr_cells::{Cell, Grid, NoMemory, grid_laws};
 use std::alloc::Global;
 use std::marker::Model;
@@ -90,25 +88,25 @@ impl Surface {
         self.put_place(area.top + row, area.left + column, cell);
     }
 
-    /// Writes the characters that a text begins with into a row of an area, from a column on. The row has room for all
-    /// of the text. Gives how many they are. Every other place stays.
+    /// Writes the characters that a text begins with into a row of an area, from a column on, as cells like that of a
+    /// blank. The row has room for all of the text. Gives how many they are. Every other place stays.
     pub fn write_text(
         &mut self,
         area: Area,
         row: u32,
         column: u32,
         text: &[u8],
-        forms: &Forms,
+        blank: Cell,
     ) -> usize
         requires part { IsPart self.old area }
         requires row { row < area.rows }
         requires end { column + length text.now ≤ area.columns }
         ensures count { result ≡ characters_first text.now }
-        ensures cells { self.new ≡ filled self.old area (row_laid row column (column + result) (forms_from forms.now column text.now) (inside_at self.old area)) }
+        ensures cells { self.new ≡ filled self.old area (row_laid row column (column + result) (forms_from blank column text.now) (inside_at self.old area)) }
     {
         // The drawings are proved from what holds of every surface.
         let _ = self.size();
-        self.write_row(area.top + row, area.left + column, text, forms)
+        self.write_row(area.top + row, area.left + column, text, blank)
     }
 
     /// Draws in an area, which has the places that the drawing names. Every place outside the area stays.

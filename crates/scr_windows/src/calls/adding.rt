@@ -16,7 +16,7 @@ use crate::desks::Desk;
 use crate::faults::{Added, Win, WinFault};
 use crate::frames::WindowState;
 use crate::laws::surface_laws;
-use crate::surfaces::{Drawing, Forms};
+use crate::surfaces::Drawing;
 use bitflags::Flags;
 use scr_cells::{Attrs, Cell, is_character};
 
@@ -134,21 +134,25 @@ impl Desk {
         let sheet = self.sheet_of(index);
         let mut all = Added::Done;
         let mut at = 0;
-        while at < text.len() {
+        while at + 1 < text.len() {
             let (count, some) = self.add_some(index, sheet, text, at);
             all = either(all, some);
             at += count;
         }
+        if at < text.len() {
+            let last = self.add_at(index, sheet, text[at], Attrs(0));
+            all = either(all, last);
+        }
         all
     }
 
-    // Adds bytes of a text, from one on, to the window at an index, which is on this surface: a stretch of characters
-    // that the line takes before its last column, or else one byte. Gives how many.
+    // Adds bytes of a text, from one before the last on, to the window at an index, which is on this surface: a stretch
+    // of characters that the line takes before its last column, or else one byte. Gives how many.
     #[inline(always)]
     fn add_some(&mut self, index: usize, sheet: usize, text: &[u8], at: usize) -> (usize, Added)
         requires here { index < length self.old.windows }
         requires sheet { IsSheetOf self.old index sheet }
-        requires at { at < length text.now }
+        requires at { at + 1 < length text.now }
         requires ascii { list_any (λ byte. leb 128 byte) text.now ≡ false }
         ensures some { 1 ≤ result.0 }
         ensures within { at + result.0 ≤ length text.now }
@@ -158,11 +162,11 @@ impl Desk {
     {
         let canvas = self.canvas_at(index);
         let room = (canvas.area.columns - 1 - canvas.state.cursor.1) as usize;
-        let end = at + room.min(text.len() - at);
-        if at < end && is_character(text[at]) {
-            return (self.add_stretch(index, sheet, &text[at..end]), Added::Done);
+        if room < 2 || !is_character(text[at]) {
+            return (1, self.add_one(index, sheet, text[at]));
         }
-        (1, self.add_at(index, sheet, text[at], Attrs(0)))
+        let end = at + room.min(text.len() - at);
+        (self.add_stretch(index, sheet, &text[at..end]), Added::Done)
     }
 
     // Adds the characters that a text begins with to the window at an index, which is on this surface. They end before
@@ -178,11 +182,23 @@ impl Desk {
     {
         surface_laws();
         let state = self.window_at(index).state();
-        let forms = forms_of(&state);
         let (row, column) = state.cursor;
-        let count = self.put_text(index, sheet, (row, column), text, &forms);
+        let blank = written_form(b' ', Attrs(0), state);
+        let count = self.put_text(index, sheet, (row, column), text, blank);
         self.set_cursor(index, row, column + count as u32);
         count
+    }
+
+    // Adds a byte below 128 without attributes to the window at an index, which is on this surface.
+    #[inline(never)]
+    fn add_one(&mut self, index: usize, sheet: usize, byte: u8) -> Added
+        requires here { index < length self.old.windows }
+        requires sheet { IsSheetOf self.old index sheet }
+        requires ascii { byte < 128 }
+        ensures added { (self.new, result) ≡ byte_added self.old index byte no_attributes }
+        ensures there { index < length self.new.windows }
+    {
+        self.add_at(index, sheet, byte, Attrs(0))
     }
 
     // Adds a byte below 128 to the window at an index, which is on this surface.
@@ -195,6 +211,23 @@ impl Desk {
         ensures added { (self.new, result) ≡ byte_added self.old index byte attrs }
         ensures there { index < length self.new.windows }
     {
+        if is_character(byte) {
+            self.add_character(index, sheet, byte, attrs)
+        } else {
+            self.add_control(index, sheet, byte, attrs)
+        }
+    }
+
+    // Does what a control character does.
+    #[inline(never)]
+    #[tactic(auto, unfolding(crate::specs::Calls::Adding::byte_added))]
+    fn add_control(&mut self, index: usize, sheet: usize, byte: u8, attrs: Attrs) -> Added
+        requires here { index < length self.old.windows }
+        requires sheet { IsSheetOf self.old index sheet }
+        requires control { (byte < 32) ⊎ (byte ≡ 127) }
+        ensures added { (self.new, result) ≡ byte_added self.old index byte attrs }
+        ensures there { index < length self.new.windows }
+    {
         let canvas = self.canvas_at(index);
         let (row, column) = canvas.state.cursor;
         match byte {
@@ -202,8 +235,7 @@ impl Desk {
             9 => self.add_tab(index),
             8 => self.go_to(index, row, column.saturating_sub(1)),
             13 => self.go_to(index, row, 0),
-            0..32 | 127 => self.add_shown(index, sheet, byte, attrs),
-            _ => self.add_character(index, sheet, byte, attrs),
+            _ => self.add_shown(index, sheet, byte, attrs),
         }
     }
 
@@ -348,19 +380,6 @@ pub(crate) fn written_form(byte: u8, attrs: Attrs, state: WindowState) -> Cell
     Cell::paired(shown, all, pair).unwrap_or(Cell::blank())
 }
 
-// The written forms of characters without attributes of their own.
-#[inline(always)]
-fn forms_of(state: &WindowState) -> Forms
-    requires { IsPair state.now.pair }
-    ensures blank { result.blank ≡ written_form 32 no_attributes state.now }
-    ensures letter { result.letter ≡ written_form 33 no_attributes state.now }
-{
-    Forms {
-        blank: written_form(b' ', Attrs(0), *state),
-        letter: written_form(b'!', Attrs(0), *state),
-    }
-}
-
 // Stayed if either is.
 fn either(first: Added, second: Added) -> Added
     ensures { result ≡ either_stayed first second }
@@ -371,9 +390,13 @@ fn either(first: Added, second: Added) -> Added
     }
 }
 
-// Whether any byte is 128 or more.
+// Whether any byte is 128 or more. It looks at all of them, so that LLVM looks at many at a time.
 fn is_any_above(text: &[u8]) -> bool
     ensures { result ≡ list_any (λ byte. leb 128 byte) text.now }
 {
-    text.iter().any(|byte| *byte >= 128)
+    let mut any = false;
+    for byte in text {
+        any |= *byte >= 128;
+    }
+    any
 }

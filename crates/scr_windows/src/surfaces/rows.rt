@@ -6,7 +6,7 @@ ghost use Rattle.scr_windows.specs.Surfaces.Formulas.{laid, over};
 ghost use Rattle.scr_windows.specs.Code.Steps.{RunIs};
 ghost use Rattle.scr_windows.specs.Code.Stretches.{characters_first, form_of, forms_from};
 
-use crate::surfaces::{Forms, Surface};
+use crate::surfaces::Surface;
 use scr_cells::{Cell, grid_laws};
 
 impl Surface {
@@ -31,18 +31,17 @@ impl Surface {
         self.grid.put(row, column, cell);
     }
 
-    // Writes the characters that a text begins with from a column on. Gives how many they are.
-    pub(crate) fn write_row(&mut self, row: u32, from: u32, text: &[u8], forms: &Forms) -> usize
+    // Writes the characters that a text begins with from a column on, as cells like that of a blank. Gives how many
+    // they are.
+    pub(crate) fn write_row(&mut self, row: u32, from: u32, text: &[u8], blank: Cell) -> usize
         requires row { row < self.old.rows }
         requires end { from + length text.now ≤ self.old.columns }
         ensures count { result ≡ characters_first text.now }
-        ensures run { RunIs self.old self.new row from (from + result) (forms_from forms.now from text.now) }
+        ensures run { RunIs self.old self.new row from (from + result) (forms_from blank from text.now) }
     {
         grid_laws::<Cell>();
-        let blank = forms.blank;
-        let letter = forms.letter;
         self.grid
-            .lay_while(row, from, text, |byte| form_of(byte, blank, letter))
+            .lay_while(row, from, text, |byte| form_of(byte, blank))
     }
 
     // Replaces an old background with a new one in columns `from..end` of a row.
@@ -118,13 +117,13 @@ fn over(cell: Cell, under: Cell) -> Cell
     if cell.byte() == 32 { under } else { cell }
 }
 
-// The cell of a byte among characters that are written alike; `None` if it is no character.
+// The cell of a byte where a blank has this cell; `None` if it is no character.
 #[inline(always)]
-fn form_of(byte: u8, blank: Cell, letter: Cell) -> Option<Cell>
-    ensures { result ≡ form_of blank letter byte }
+fn form_of(byte: u8, blank: Cell) -> Option<Cell>
+    ensures { result ≡ form_of blank byte }
 {
     if byte == 32 {
         return Some(blank);
     }
-    Cell::paired(byte, letter.attrs(), letter.pair())
+    Cell::paired(byte, blank.attrs(), blank.pair())
 }

@@ -24,5 +24,5 @@ set_cursor-requires-clause-column c =
 
 pub returns-clause-added : goal.returns-clause-added
 returns-clause-added c =
-    stretch_added c.surface_laws.ensures c.args.self.now c.put_text-count.new.self _ c.args.index c.put_text-count.result c.args.text.now c.forms_of-forms.result c.state-state.result c.window_at.ensures.placed
-    (c.state-state.ensures ∙ ap (λ (w : WindowView). w.state) c.window_at.ensures.window) c.requires.some c.requires.room c.forms_of-forms.ensures.blank c.forms_of-forms.ensures.letter c.put_text-count.ensures.count c.put_text-count.ensures.put c.set_cursor.ensures
+    stretch_added c.surface_laws.ensures c.args.self.now c.put_text-count.new.self _ c.args.index c.put_text-count.result c.args.text.now c.written_form-blank.result c.state-state.result c.window_at.ensures.placed
+    (c.state-state.ensures ∙ ap (λ (w : WindowView). w.state) c.window_at.ensures.window) c.requires.some c.requires.room c.written_form-blank.ensures c.put_text-count.ensures.count c.put_text-count.ensures.put c.set_cursor.ensures

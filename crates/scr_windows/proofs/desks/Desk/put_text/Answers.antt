@@ -10,13 +10,13 @@ write_text-requires-clause-part c = draws_part _ _ c.args.index _ _ _ _ (record 
 
 pub invariant_of-self : goal.invariant_of-self
 invariant_of-self c =
-    let laid = row_laid c.args.place.0 c.args.place.1 (c.args.place.1 + c.write_text.result) (forms_from c.args.forms.now c.args.place.1 c.args.text.now) in
+    let laid = row_laid c.args.place.0 c.args.place.1 (c.args.place.1 + c.write_text.result) (forms_from c.args.blank c.args.place.1 c.args.text.now) in
     drawn_is_desk c.surface_laws.ensures _ _ c.args.index _ _ _ _ _ _ _ c.args.place.0 (c.args.place.0 + 1) laid (record { is = c.self.view_is; desk = c.self.invariant; here = c.requires.here; window = c.index_mut-window.ensures.value; frame_is = c.frame-frame.ensures })
     (found_before _ _ c.args.index _ _ _ _ (record { is = c.self.view_is; desk = c.self.invariant; here = c.requires.here; window = c.index_mut-window.ensures.value; frame_is = c.frame-frame.ensures }) c.requires.sheet c.index_mut.ensures.value) c.touch_line.ensures c.write_text.ensures.cells refl
 
 pub returns-clause-put : goal.returns-clause-put
 returns-clause-put c =
-    let laid = row_laid c.args.place.0 c.args.place.1 (c.args.place.1 + c.write_text.result) (forms_from c.args.forms.now c.args.place.1 c.args.text.now) in
+    let laid = row_laid c.args.place.0 c.args.place.1 (c.args.place.1 + c.write_text.result) (forms_from c.args.blank c.args.place.1 c.args.text.now) in
     written_path _ _ c.args.index _ _ _ _ _ _ _ c.args.place.0 (c.args.place.0 + 1) laid (record { is = c.self.view_is; desk = c.self.invariant; here = c.requires.here; window = c.index_mut-window.ensures.value; frame_is = c.frame-frame.ensures })
     (found_before _ _ c.args.index _ _ _ _ (record { is = c.self.view_is; desk = c.self.invariant; here = c.requires.here; window = c.index_mut-window.ensures.value; frame_is = c.frame-frame.ensures }) c.requires.sheet c.index_mut.ensures.value) c.touch_line.ensures c.write_text.ensures.cells refl
     ∙ ap (λ v. write v c.args.index c.args.place.0 (c.args.place.0 + 1) laid) c.self.view_is
