@@ -1,14 +1,13 @@
 -- Texts that are added: a text in two parts, and the characters that a text begins with, written in one go.
-use Rattle.std.proofs.Common.{◌≡◌, ℕ, zero, suc, ◌+◌, ◌-◌, ◌<◌, ◌≤◌, ◌∙◌, ap, refl, sym, subst, arith, List, [], ◌∷◌, ◌++◌, length, take, drop, get_or, map, Option, Some, None, Bool, true, false, cond, ◌==◌, ◌&&◌, ◌||◌, leb, ltb}
+use Rattle.std.proofs.Common.{◌≡◌, ℕ, zero, suc, ◌+◌, ◌-◌, ◌<◌, ◌≤◌, ◌∙◌, ap, refl, sym, subst, arith, List, [], ◌∷◌, ◌++◌, length, take, drop, get_or, map, Some, None, Bool, true, false, cond, ◌==◌, ◌&&◌, ◌||◌, leb, ltb}
 use Rattle.std.specs.Prelude.{slice_set}
 use Rattle.std.specs.List.{range_with_len}
 use Rattle.std.proofs.lemmas.Bool.Decides.{nat_tests}
-use Rattle.std.proofs.lemmas.List.{drop-drop, drop_more, get_or-drop, get_or-set_same, get_or-take, length-drop, length-set, length-take, length-take-le, set-set, take-append-drop, take-take, take_all}
+use Rattle.std.proofs.lemmas.List.{drop-drop, get_or-drop, get_or-set_same, get_or-take, length-drop, length-set, length-take, length-take-le, set-set, take-append-drop, take-take, take_all}
 use Rattle.std.proofs.lemmas.List.FromFn.{get_or-map-range_with_len, length-map-range_with_len}
 use Rattle.scr_cells.specs.CellViews.{CellView, blank_cell, is_character}
 use Rattle.scr_cells.specs.Grids.{GridLaws, GridView, grid_with_run}
 use Rattle.scr_cells.specs.MadeRuns.{before, made_while}
-use Rattle.scr_cells.specs.declared.attributes.Attrs.{Attrs}
 use Rattle.scr_windows.specs.declared.faults.Added.{Added}
 use Rattle.scr_windows.specs.declared.faults.Added.TheVariants.{Done, Stayed}
 use Rattle.scr_windows.specs.declared.frames.WindowState.{WindowState}
@@ -16,10 +15,10 @@ use Rattle.scr_windows.specs.declared.sheets.Sheet.{Sheet}
 use Rattle.scr_windows.specs.declared.surfaces.areas.Area.{Area}
 use Rattle.scr_windows.specs.Surfaces.Formulas.{run_put}
 use Rattle.scr_windows.specs.Surfaces.SurfaceLaws.{SurfaceLaws}
-use Rattle.scr_windows.specs.Surfaces.SurfaceViews.{SurfaceView, IsPart, IsSurface, cell_of, filled, inside_at, is_inside}
+use Rattle.scr_windows.specs.Surfaces.SurfaceViews.{SurfaceView, IsPart, IsSurface, filled, inside_at, is_inside}
 use Rattle.scr_windows.specs.DeskViews.{DeskView, IsThere, WindowView, no_attributes, no_window, surface_at, window_at}
 use Rattle.scr_windows.specs.Sheets.{with_surface}
-use Rattle.scr_windows.specs.Changes.{fill, marked, marked_lines, with_window, write}
+use Rattle.scr_windows.specs.Changes.{fill, marked, marked_lines, write}
 use Rattle.scr_windows.specs.Calls.Adding.{byte_added, character_added, either_stayed, gone_to, line_begun, text_added, written_form}
 use Rattle.scr_windows.specs.Calls.Settings.{cursor_at}
 use Rattle.scr_windows.specs.Code.Steps.{Changes, RunIs}
@@ -100,10 +99,6 @@ either_more : (a b c : Added) → either_stayed a (either_stayed b c) ≡ either
 either_more Done b c = refl
 either_more Stayed b c = refl
 
-either_done : (a : Added) → either_stayed a Done ≡ a
-either_done Done = refl
-either_done Stayed = refl
-
 -- a text is added after something else
 abbrev then_added : DeskView × Added → ℕ → List ℕ → DeskView × Added
 then_added first i rest = ((text_added first.0 i rest).0, either_stayed first.1 (text_added first.0 i rest).1)
@@ -120,11 +115,6 @@ text_split (byte ∷ s) rest d i =
     let two : ◌≡◌ {A = DeskView × Added} (last.0, either_stayed first.1 (either_stayed more.1 last.1)) (last.0, either_stayed (either_stayed first.1 more.1) last.1)
     = (λ j. (last.0, either_more first.1 more.1 last.1 j)) in
     one ∙ two
-
-one_text : (d : DeskView) (i byte : ℕ) → text_added d i (byte ∷ []) ≡ byte_added d i byte no_attributes
-one_text d i byte =
-    let first : DeskView × Added = byte_added d i byte no_attributes in
-    (λ j. (first.0, either_done first.1 j))
 
 -- what is added so far, and what the rest of the text adds, is what the text adds
 pub added_more : (d new fn : DeskView) (i at count : ℕ) (all one : Added) (text : List ℕ) → ◌≡◌ {A = DeskView × Added} (new, one) (text_added d i (take count (drop at text)))

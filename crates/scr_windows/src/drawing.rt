@@ -61,9 +61,9 @@ impl Desk {
             .put(frame.area, row, column, cell);
     }
 
-    // Writes the characters that a text begins with from a place of the window at an index on, which is on this
-    // surface, as cells like that of a blank, and touches the line. The line has room for all of the text. Gives how
-    // many they are.
+    // Writes the characters that a text begins with from a place on in the window at an index, which is on this
+    // surface, and touches the line. Each is in the cell that a blank gets, but for its byte. The line has room for all
+    // of the text. Gives how many they are.
     #[inline(always)]
     pub(crate) fn put_text(
         &mut self,

@@ -88,9 +88,10 @@ impl Surface {
         self.put_place(area.top + row, area.left + column, cell);
     }
 
-    /// Writes the characters that a text begins with into a row of an area, from a column on, as cells like that of a
-    /// blank. The row has room for all of the text. Gives how many they are. Every other place stays.
-    pub fn write_text(
+    // Writes the characters that a text begins with into a row of an area, from a column on: each in the cell that a
+    // blank gets, but for its byte. The row has room for all of the text. Gives how many they are. Every other place
+    // stays.
+    pub(crate) fn write_text(
         &mut self,
         area: Area,
         row: u32,

@@ -7,7 +7,7 @@ abbrev pub characters_first : List ℕ → ℕ
 characters_first [] = 0
 characters_first (byte ∷ bytes) = if is_character byte then suc (characters_first bytes) else 0
 
--- the cell of a character where a blank has this cell
+-- the cell of a character where a blank gets this one
 abbrev pub cell_beside : CellView → ℕ → CellView
 cell_beside blank byte = if byte == 32 then blank else record blank { byte = byte }
 

@@ -163,7 +163,7 @@ impl Desk {
         let canvas = self.canvas_at(index);
         let room = (canvas.area.columns - 1 - canvas.state.cursor.1) as usize;
         if room < 2 || !is_character(text[at]) {
-            return (1, self.add_one(index, sheet, text[at]));
+            return (1, self.add_at(index, sheet, text[at], Attrs(0)));
         }
         let end = at + room.min(text.len() - at);
         (self.add_stretch(index, sheet, &text[at..end]), Added::Done)
@@ -189,18 +189,6 @@ impl Desk {
         count
     }
 
-    // Adds a byte below 128 without attributes to the window at an index, which is on this surface.
-    #[inline(never)]
-    fn add_one(&mut self, index: usize, sheet: usize, byte: u8) -> Added
-        requires here { index < length self.old.windows }
-        requires sheet { IsSheetOf self.old index sheet }
-        requires ascii { byte < 128 }
-        ensures added { (self.new, result) ≡ byte_added self.old index byte no_attributes }
-        ensures there { index < length self.new.windows }
-    {
-        self.add_at(index, sheet, byte, Attrs(0))
-    }
-
     // Adds a byte below 128 to the window at an index, which is on this surface.
     #[inline(always)]
     #[tactic(auto, unfolding(crate::specs::Calls::Adding::byte_added))]
@@ -211,23 +199,6 @@ impl Desk {
         ensures added { (self.new, result) ≡ byte_added self.old index byte attrs }
         ensures there { index < length self.new.windows }
     {
-        if is_character(byte) {
-            self.add_character(index, sheet, byte, attrs)
-        } else {
-            self.add_control(index, sheet, byte, attrs)
-        }
-    }
-
-    // Does what a control character does.
-    #[inline(never)]
-    #[tactic(auto, unfolding(crate::specs::Calls::Adding::byte_added))]
-    fn add_control(&mut self, index: usize, sheet: usize, byte: u8, attrs: Attrs) -> Added
-        requires here { index < length self.old.windows }
-        requires sheet { IsSheetOf self.old index sheet }
-        requires control { (byte < 32) ⊎ (byte ≡ 127) }
-        ensures added { (self.new, result) ≡ byte_added self.old index byte attrs }
-        ensures there { index < length self.new.windows }
-    {
         let canvas = self.canvas_at(index);
         let (row, column) = canvas.state.cursor;
         match byte {
@@ -235,7 +206,8 @@ impl Desk {
             9 => self.add_tab(index),
             8 => self.go_to(index, row, column.saturating_sub(1)),
             13 => self.go_to(index, row, 0),
-            _ => self.add_shown(index, sheet, byte, attrs),
+            0..32 | 127 => self.add_shown(index, sheet, byte, attrs),
+            _ => self.add_character(index, sheet, byte, attrs),
         }
     }
 

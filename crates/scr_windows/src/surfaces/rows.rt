@@ -31,8 +31,8 @@ impl Surface {
         self.grid.put(row, column, cell);
     }
 
-    // Writes the characters that a text begins with from a column on, as cells like that of a blank. Gives how many
-    // they are.
+    // Writes the characters that a text begins with from a column on: each in the cell that a blank gets, but for its
+    // byte. Gives how many they are.
     pub(crate) fn write_row(&mut self, row: u32, from: u32, text: &[u8], blank: Cell) -> usize
         requires row { row < self.old.rows }
         requires end { from + length text.now ≤ self.old.columns }
@@ -117,13 +117,11 @@ fn over(cell: Cell, under: Cell) -> Cell
     if cell.byte() == 32 { under } else { cell }
 }
 
-// The cell of a byte where a blank has this cell; `None` if it is no character.
+// The cell of a byte where a blank gets this one; `None` if it is no character.
 #[inline(always)]
 fn form_of(byte: u8, blank: Cell) -> Option<Cell>
     ensures { result ≡ form_of blank byte }
 {
-    if byte == 32 {
-        return Some(blank);
-    }
-    Cell::paired(byte, blank.attrs(), blank.pair())
+    let cell = Cell::paired(byte, blank.attrs(), blank.pair())?;
+    Some(if byte == 32 { blank } else { cell })
 }

@@ -1,4 +1,4 @@
-use Rattle.std.proofs.Common.{◌+◌, ◌∙◌, ap, arith, drop}
+use Rattle.std.proofs.Common.{◌+◌, ◌∙◌, ap, drop}
 use Rattle.scr_windows.specs.declared.faults.Added.{Added}
 use Rattle.scr_windows.specs.Calls.Adding.{either_stayed, text_added}
 use Rattle.scr_windows.proofs.TextLaws.{added_more}

@@ -10,7 +10,7 @@ use Rattle.scr_windows.proofs.desks.Desk.add_some.Goals as goal
 
 pub returns-then-room-lt2-clause-sheet : goal.returns-then-room-lt2-clause-sheet
 returns-then-room-lt2-clause-sheet c =
-    subst (λ (r : DeskView × Added). IsSheetOf r.0 c.args.index c.args.sheet) (sym c.add_one.ensures.added) (byte_stays _ c.args.index c.args.sheet _ _ c.requires.here c.requires.sheet)
+    subst (λ (r : DeskView × Added). IsSheetOf r.0 c.args.index c.args.sheet) (sym c.add_at.ensures.added) (byte_stays _ c.args.index c.args.sheet _ _ c.requires.here c.requires.sheet)
 
 pub add_stretch-requires-clause-some : goal.add_stretch-requires-clause-some
 add_stretch-requires-clause-some c =
