@@ -104,10 +104,10 @@ impl Samples {
     // Adds a row that differs from a column on, unless it is wanted blank.
     fn add(&mut self, chooser: &Chooser<'_>, row: u32, column: u32) -> Result<(), NoMemory> {
         let cells = chooser.cells(row);
-        if is_blank(chooser, cells) {
+        let byte = byte_at(cells, column);
+        if byte == b' ' && is_blank(chooser, cells) {
             return Ok(());
         }
-        let byte = byte_at(cells, column);
         let is_shown = false;
         self.found.push(Sample {
             row,
@@ -160,12 +160,18 @@ impl Samples {
     }
 
     // Which of these rows show, so many rows further down or up, what is wanted in them; or any
-    // fewer of them if these are no more than `least`.
-    fn votes<P: RowPrices>(&self, prices: &P, distance: Distance, least: u32) -> Votes {
-        let count = self.count();
+    // fewer of them if these are no more than `least`. Only the numbers of `within` are asked for.
+    fn votes<P: RowPrices>(
+        &self,
+        prices: &P,
+        distance: Distance,
+        within: (u32, u32),
+        least: u32,
+    ) -> Votes {
+        let (from, end) = within;
         let mut votes = Votes::none();
-        for number in 0..count {
-            if votes.count.saturating_add(count - number) <= least {
+        for number in from..end {
+            if votes.count.saturating_add(end - number) <= least {
                 return votes;
             }
             if self.is_vote(prices, distance, number) {
@@ -182,11 +188,50 @@ impl Samples {
             return false;
         };
         match distance.source(sample.row) {
-            Some(source) if self.first <= source && source <= self.last => {
-                is_alike(prices, prices.looks(source), sample)
-            }
-            _ => false,
+            Some(source) => is_alike(prices, prices.looks(source), sample),
+            None => false,
         }
+    }
+
+    // The row of the sample with a number.
+    fn row_of(&self, number: u32) -> u32 {
+        match self.found.get(self.place(number)) {
+            Some(sample) => sample.row,
+            None => FAR,
+        }
+    }
+}
+
+// The samples that have a row to come from, so many rows further: upwards those before `up`, and
+// downwards those from `down` on. The further the rows move, the fewer these are.
+#[derive(Clone, Copy)]
+struct Movable {
+    up: u32,
+    down: u32,
+}
+
+impl Movable {
+    // Drops the samples that have none.
+    fn drop_those_beyond(&mut self, samples: &Samples, rows: u32) {
+        let count = samples.count();
+        let last = samples.last.saturating_sub(rows);
+        while self.up > 0 && samples.row_of(self.up - 1) > last {
+            self.up -= 1;
+        }
+        let first = samples.first.saturating_add(rows);
+        while self.down < count && samples.row_of(self.down) < first {
+            self.down += 1;
+        }
+    }
+
+    // The numbers of the samples in one direction.
+    fn within(self, count: u32, up: bool) -> (u32, u32) {
+        if up { (0, self.up) } else { (self.down, count) }
+    }
+
+    // How many samples there are at most in either direction.
+    fn most(self, count: u32) -> u32 {
+        self.up.max(count.saturating_sub(self.down))
     }
 }
 
@@ -232,22 +277,24 @@ impl Votes {
 }
 
 // By how many rows most of the samples moved, if any did, and which of them: on a tie the fewest
-// rows, and then down. The terminal can move as many lines so.
+// rows, and then down. The terminal can move as many lines so. Rows that more samples cannot have
+// moved by are not looked at.
 fn most_votes<P: RowPrices>(prices: &P, samples: &Samples) -> Option<(Distance, Votes)> {
     let count = samples.count();
+    let mut movable = Movable { up: count, down: 0 };
     let mut best = None;
     let mut most = 0u32;
     for less in 0..samples.last.saturating_sub(samples.first) {
-        if most >= count {
+        let rows = less.saturating_add(1);
+        movable.drop_those_beyond(samples, rows);
+        if most >= movable.most(count) {
             return best;
         }
         for up in [false, true] {
-            let distance = Distance {
-                count: less.saturating_add(1),
-                up,
-            };
+            let distance = Distance { count: rows, up };
             if can_shift(prices.chooser().prices, distance) {
-                let votes = samples.votes(prices, distance, most);
+                let within = movable.within(count, up);
+                let votes = samples.votes(prices, distance, within, most);
                 if votes.count > most {
                     most = votes.count;
                     best = Some((distance, votes));
