@@ -2,7 +2,7 @@
 
 use crate::buffers::Buffer;
 use crate::troubles::Trouble;
-use scr_cells::is_character;
+use scr_cells::is_ascii;
 
 /// Adds the bytes of a text: pieces in quotation marks with `+` between, and `*N` after one that is repeated.
 /// `\n`, `\t`, `\e`, `\"`, `\\` and `\xHH` stand for bytes.
@@ -110,7 +110,7 @@ pub fn write_byte(byte: u8, text: &mut Buffer) {
         b'\t' => text.extend(b"\\t"),
         27 => text.extend(b"\\e"),
         b'"' | b'\\' => text.extend(&[b'\\', byte]),
-        _ if is_character(byte) => text.push(byte),
+        _ if is_ascii(byte) => text.push(byte),
         _ => text.extend(&[b'\\', b'x', hexadecimal(byte / 16), hexadecimal(byte % 16)]),
     }
 }

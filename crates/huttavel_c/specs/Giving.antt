@@ -1,6 +1,7 @@
 -- Cells that C gives by three numbers.
 use Rattle.std.specs.Prelude.{ℕ, Bool, Result, Ok, Err, nat_le, if◌then◌else◌}
-use Rattle.scr_cells.specs.CellViews.{CellView, is_character}
+use Rattle.scr_cells.specs.CellViews.{CellView}
+use Rattle.scr_cells.specs.Characters.{is_ascii}
 use Rattle.scr_windows.specs.Calls.Settings.{change_background_call, set_background_call}
 use Rattle.scr_windows.specs.DeskViews.{DeskView}
 use Rattle.scr_windows.specs.declared.faults.WinFault.{WinFault}
@@ -9,7 +10,7 @@ use Rattle.huttavel_c.specs.Replies.{done_number}
 -- The cell of a byte, attributes and a colour pair, or why there is none.
 abbrev pub cell_given : ℕ → ℕ → ℕ → Result CellView ℕ
 cell_given byte attrs pair =
-    if is_character byte then (if nat_le pair 63 then Ok (record { byte = byte; attrs = attrs; pair = pair }) else Err 23)
+    if is_ascii byte then (if nat_le pair 63 then Ok (record { character = byte; attrs = attrs; pair = pair }) else Err 23)
     else Err 15
 
 -- A background is changed, or set.

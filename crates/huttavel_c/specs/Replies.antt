@@ -1,6 +1,7 @@
 -- What the functions of the C library give for the answers of a screen's calls.
 use Rattle.std.specs.Prelude.{ℕ, Bool, true, false, Result, Ok, Err}
 use Rattle.scr_cells.specs.CellViews.{CellView}
+use Rattle.scr_cells.specs.Characters.{stand_in}
 use Rattle.scr_windows.specs.declared.faults.Added.{Added}
 use Rattle.scr_windows.specs.declared.faults.Added.TheVariants.{Done, Stayed}
 use Rattle.scr_windows.specs.declared.faults.Win.{Win}
@@ -18,9 +19,9 @@ refused fault = record { fault = fault; first = 0; second = 0; third = 0 }
 abbrev pub no_length : ℕ → Length
 no_length fault = record { fault = fault; count = 0 }
 
--- A cell, as C has it.
+-- A cell, as C has it: by the byte that is shown for its character.
 abbrev pub given_cell : CellView → GivenCell
-given_cell cell = record { byte = cell.byte; attrs = cell.attrs; pair = cell.pair }
+given_cell cell = record { byte = stand_in cell.character; attrs = cell.attrs; pair = cell.pair }
 
 -- One number.
 abbrev pub with_one : ℕ → Reply
@@ -30,9 +31,9 @@ with_one first = record { fault = 0; first = first; second = 0; third = 0 }
 abbrev pub with_two : ℕ × ℕ → Reply
 with_two pair = record { fault = 0; first = pair.0; second = pair.1; third = 0 }
 
--- A cell: its byte, attributes and colour pair.
+-- A cell: the byte that is shown for its character, its attributes and its colour pair.
 abbrev pub with_cell : CellView → Reply
-with_cell cell = record { fault = 0; first = cell.byte; second = cell.attrs; third = cell.pair }
+with_cell cell = record { fault = 0; first = stand_in cell.character; second = cell.attrs; third = cell.pair }
 
 -- A truth value as a number.
 abbrev pub as_number : Bool → ℕ

@@ -26,7 +26,7 @@ fn cell_at(picture: &Picture, row: u32, column: u32) -> Cell
 // What is seen of the picture in a place: a byte, and the pen that it is written with.
 pub(crate) fn seen_at(profile: &Profile, picture: &Picture, row: u32, column: u32) -> (u8, Pen)
     requires place { IsPlace picture.now.rows picture.now.columns (row, column) }
-    ensures byte { result.0 ≡ (look_at profile.now picture.now (row, column)).byte }
+    ensures byte { result.0 ≡ (look_at profile.now picture.now (row, column)).character }
     ensures pen { result.1 ≡ (look_at profile.now picture.now (row, column)).pen }
 {
     let cell = cell_at(picture, row, column);

@@ -1,4 +1,5 @@
 pub mod BuiltLaws
+pub mod CharacterLaws
 pub mod DifferenceLaws
 pub mod GridLaws
 pub mod MadeRunLaws

@@ -1,5 +1,6 @@
 pub mod Attributes
 pub mod CellViews
+pub mod Characters
 pub mod Code
 pub mod Differences
 pub mod Grids

@@ -1,22 +1,23 @@
 -- What a terminal shows in one place. ECMA-48, 'graphic rendition'.
 use Rattle.std.specs.Prelude.{ℕ, Bool, Option, None, bit_and, List, map, if◌then◌else◌}
-use Rattle.scr_cells.specs.CellViews.{CellView, IsCharacter}
+use Rattle.scr_cells.specs.CellViews.{CellView}
+use Rattle.scr_cells.specs.Characters.{IsAscii, stand_in}
 use Rattle.scr_cells.specs.Grids.{grid_of}
 use Rattle.scr_cells.specs.PenViews.{PenView, IsPen, negative_pen, pair_colours, plain_pen}
 
 -- A look: a character, and the pen (attributes and colours) that it is shown with.
 pub record LookView : Type 0 where
-  pub byte : ℕ
+  pub character : ℕ
   pub pen : PenView
 
--- A valid look.
+-- A valid look. Terminals show ASCII alone.
 pub record IsLook (look : LookView) : Type 0 where
-  pub character : IsCharacter look.byte
+  pub character : IsAscii look.character
   pub pen : IsPen look.pen
 
--- A blank: byte 32 without attributes, in default colours.
+-- A blank: character 32 without attributes, in default colours.
 abbrev pub blank : LookView
-blank = record { byte = 32; pen = plain_pen }
+blank = record { character = 32; pen = plain_pen }
 
 -- Blanks everywhere.
 abbrev pub blank_grid : ℕ → ℕ → List (List LookView)
@@ -31,9 +32,9 @@ seen_pen shown colours pairs cell = record {
   background = if colours then (pair_colours pairs cell.pair).1 else None;
 }
 
--- What is seen of a cell there: its character, with that pen.
+-- What is seen of a cell there: the stand-in of its character, with that pen.
 abbrev pub seen : ℕ → Bool → List (Option ℕ × Option ℕ) → CellView → LookView
-seen shown colours pairs cell = record { byte = cell.byte; pen = seen_pen shown colours pairs cell }
+seen shown colours pairs cell = record { character = stand_in cell.character; pen = seen_pen shown colours pairs cell }
 
 -- The negative of a look: reverse in place of standout.
 abbrev pub negative : LookView → LookView

@@ -1,19 +1,21 @@
 //! Cells: what a window holds in one place.
-ghost use Rattle.std.specs.Prelude.{◌≡◌, ◌↔◌, ◌==◌, IsSome, IsTrue, IfSome};
+ghost use Rattle.std.specs.Prelude.{◌≡◌, ◌↔◌, ◌==◌, IsSome, IfSome};
 ghost use Rattle.std.proofs.Common.{rules};
 ghost use Rattle.std.specs.Ordering.{eq_of_both, on};
 ghost use Rattle.std.specs.Cmp.Rules.{comparing};
-ghost use Rattle.scr_cells.specs.CellViews.{IsCell, IsCharacter, IsPair, blank_cell, exchanged, is_character};
+ghost use Rattle.scr_cells.specs.CellViews.{IsCell, IsPair, blank_cell, exchanged};
+ghost use Rattle.scr_cells.specs.Characters.{IsAscii, IsCharacter, stand_in};
 
 use crate::Attrs;
+use crate::characters::{is_ascii, is_character, stand_in};
 use crate::differences::Packed;
 use bitflags::Flags;
 use std::marker::Model;
 
-/// What a window holds in one place: a byte 32 to 126, a set of attributes and the number of a colour pair (X/Open
-/// Curses Issue 7, 'Characters' and 'Color'). Pair 0 means the terminal's default colours.
+/// What a window holds in one place: a character (`is_character`), a set of attributes and the number of a colour pair
+/// (X/Open Curses Issue 7, 'Characters' and 'Color'). Pair 0 means the terminal's default colours.
 ///
-/// One `u32`: the byte in bits 0 to 7, the attributes in bits 8 to 15, the pair in bits 16 to 21.
+/// One `u32`: the character in bits 0 to 15, the attributes in bits 16 to 23, the pair in bits 24 to 29.
 #[derive(Clone, Copy, Debug)]
 pub struct Cell {
     packed: u32,
@@ -25,11 +27,11 @@ impl Model for Cell {
 
     ghost Value = { CellView };
 
-    ghost view = { λ a. record { byte = a.packed % 256; attrs = a.packed / 256 % 256; pair = a.packed / 65536 } };
+    ghost view = { λ a. record { character = a.packed % 65536; attrs = a.packed / 65536 % 256; pair = a.packed / 16777216 } };
 
-    ghost invariant = { λ a. IsCell (record { byte = a.packed % 256; attrs = a.packed / 256 % 256; pair = a.packed / 65536 }) };
+    ghost invariant = { λ a. IsCell (record { character = a.packed % 65536; attrs = a.packed / 65536 % 256; pair = a.packed / 16777216 }) };
 
-    ghost inverse = { λ v. record { packed = v.pair * 65536 + v.attrs * 256 + v.byte } };
+    ghost inverse = { λ v. record { packed = v.pair * 16777216 + v.attrs * 65536 + v.character } };
 }
 
 impl Cell {
@@ -38,28 +40,42 @@ impl Cell {
 
     /// The cell of a byte and attributes, with pair 0; `None` if the byte is not 32 to 126.
     pub fn new(byte: u8, attrs: Attrs) -> Option<Cell>
-        ensures character { IsSome result ↔ IsCharacter byte }
-        ensures holds { IfSome result (λ cell. cell ≡ record { byte = byte; attrs = attrs.0; pair = 0 }) }
+        ensures character { IsSome result ↔ IsAscii byte }
+        ensures holds { IfSome result (λ cell. cell ≡ record { character = byte; attrs = attrs.0; pair = 0 }) }
     {
-        if !is_character(byte) {
+        if !is_ascii(byte) {
             return None;
         }
         Some(Cell {
-            packed: u32::from(attrs.0) * 256 + u32::from(byte),
+            packed: u32::from(attrs.0) * 65536 + u32::from(byte),
         })
     }
 
     /// The cell of a byte, attributes and a colour pair; `None` if the byte is not 32 to 126 or the pair is above 63
     /// (X/Open Curses Issue 7, 'Color').
     pub fn paired(byte: u8, attrs: Attrs, pair: u32) -> Option<Cell>
-        ensures fits { IsSome result ↔ (IsCharacter byte × IsPair pair) }
-        ensures holds { IfSome result (λ cell. cell ≡ record { byte = byte; attrs = attrs.0; pair = pair }) }
+        ensures fits { IsSome result ↔ (IsAscii byte × IsPair pair) }
+        ensures holds { IfSome result (λ cell. cell ≡ record { character = byte; attrs = attrs.0; pair = pair }) }
     {
-        if !is_character(byte) || pair > Cell::MOST_PAIR {
+        if !is_ascii(byte) || pair > Cell::MOST_PAIR {
             return None;
         }
         Some(Cell {
-            packed: pair * 65536 + u32::from(attrs.0) * 256 + u32::from(byte),
+            packed: pair * 16777216 + u32::from(attrs.0) * 65536 + u32::from(byte),
+        })
+    }
+
+    /// The cell of a character, attributes and a colour pair; `None` if the `char` is no character (`is_character`) or
+    /// the pair is above 63.
+    pub fn of(character: char, attrs: Attrs, pair: u32) -> Option<Cell>
+        ensures fits { IsSome result ↔ (IsCharacter character × IsPair pair) }
+        ensures holds { IfSome result (λ cell. cell ≡ record { character = character; attrs = attrs.0; pair = pair }) }
+    {
+        if !is_character(character) || pair > Cell::MOST_PAIR {
+            return None;
+        }
+        Some(Cell {
+            packed: pair * 16777216 + u32::from(attrs.0) * 65536 + u32::from(character),
         })
     }
 
@@ -70,12 +86,31 @@ impl Cell {
         Cell { packed: 32 }
     }
 
-    /// The byte, 32 to 126.
-    pub fn byte(self) -> u8
-        ensures value { result ≡ self.byte }
+    /// The character.
+    pub fn character(self) -> char
+        ensures value { result ≡ self.character }
         ensures cell { IsCell self }
     {
-        (self.packed % 256) as u8
+        // There is one, since no character of a cell is a surrogate.
+        char::from_u32(self.code()).unwrap_or(' ')
+    }
+
+    /// The code of the character.
+    pub fn code(self) -> u32
+        ensures value { result ≡ self.character }
+        ensures cell { IsCell self }
+    {
+        self.packed % 65536
+    }
+
+    /// The stand-in of the character: the byte, 32 to 126, that is shown for it where the terminal has ASCII alone. A
+    /// character of ASCII stands for itself.
+    pub fn byte(self) -> u8
+        ensures value { result ≡ stand_in self.character }
+        ensures ascii { IsAscii result }
+        ensures cell { IsCell self }
+    {
+        stand_in(self.code())
     }
 
     /// The attributes.
@@ -83,7 +118,7 @@ impl Cell {
         ensures value { result.0 ≡ self.attrs }
         ensures cell { IsCell self }
     {
-        Attrs((self.packed / 256 % 256) as u8)
+        Attrs((self.packed / 65536 % 256) as u8)
     }
 
     /// The number of the colour pair, 0 to 63.
@@ -91,17 +126,17 @@ impl Cell {
         ensures value { result ≡ self.pair }
         ensures cell { IsCell self }
     {
-        self.packed / 65536
+        self.packed / 16777216
     }
 
-    /// The cell with a new background in place of an old one. If it has the old one's byte, it gets the new one's; the
-    /// same holds for the colour pair. The attributes of the old one are removed, and those of the new one added
+    /// The cell with a new background in place of an old one. If it has the old one's character, it gets the new one's;
+    /// the same holds for the colour pair. The attributes of the old one are removed, and those of the new one added
     /// (X/Open Curses Issue 7, bkgd()).
     pub fn exchanged(self, old: Cell, new: Cell) -> Cell
         ensures { result ≡ exchanged old new self }
     {
-        let shown = if self.byte() == old.byte() {
-            self.with_byte_of(old, new)
+        let shown = if self.code() == old.code() {
+            self.with_character_of(old, new)
         } else {
             self
         };
@@ -112,18 +147,18 @@ impl Cell {
         };
         let attrs = self.attrs().difference(old.attrs()).union(new.attrs());
         Cell {
-            packed: coloured.pair() * 65536 + u32::from(attrs.0) * 256 + u32::from(coloured.byte()),
+            packed: coloured.pair() * 16777216 + u32::from(attrs.0) * 65536 + coloured.code(),
         }
     }
 
-    // The cell with the byte of a new one, if it has that of an old one. It is made by sums, which LLVM does for four
+    // The cell with the character of a new one, if it has that of an old one. It is made by sums, which LLVM does for four
     // cells at a time.
-    fn with_byte_of(self, old: Cell, new: Cell) -> Cell
-        requires { self.byte ≡ old.byte }
-        ensures { result ≡ record self { byte = new.byte } }
+    fn with_character_of(self, old: Cell, new: Cell) -> Cell
+        requires { self.character ≡ old.character }
+        ensures { result ≡ record self { character = new.character } }
     {
         Cell {
-            packed: self.packed - old.packed % 256 + new.packed % 256,
+            packed: self.packed - old.packed % 65536 + new.packed % 65536,
         }
     }
 
@@ -133,21 +168,14 @@ impl Cell {
         ensures { result ≡ record self { pair = new.pair } }
     {
         Cell {
-            packed: self.packed - old.packed / 65536 * 65536 + new.packed / 65536 * 65536,
+            packed: self.packed - old.packed / 16777216 * 16777216
+                + new.packed / 16777216 * 16777216,
         }
     }
 }
 
-/// Whether a byte is a character: 32 to 126, which is the blank or a graphic character of ASCII.
-pub fn is_character(byte: u8) -> bool
-    ensures value { result ≡ is_character byte }
-    ensures character { IsTrue result ↔ IsCharacter byte }
-{
-    (32..=126).contains(&byte)
-}
-
 impl PartialEq for Cell {
-    ghost eq = { eq_of_both (on (λ cell. cell.byte) ◌==◌) (eq_of_both (on (λ cell. cell.attrs) ◌==◌) (on (λ cell. cell.pair) ◌==◌)) };
+    ghost eq = { eq_of_both (on (λ cell. cell.character) ◌==◌) (eq_of_both (on (λ cell. cell.attrs) ◌==◌) (on (λ cell. cell.pair) ◌==◌)) };
 
     ghost laws = { Prim.search (comparing, rules) };
 
@@ -159,9 +187,9 @@ impl PartialEq for Cell {
 impl Packed for Cell {
     ghost use Rattle.std.specs.Prelude.{◌+◌, ◌*◌, ◌/◌, ◌%◌};
 
-    ghost code = { λ cell. cell.pair * 65536 + cell.attrs * 256 + cell.byte };
+    ghost code = { λ cell. cell.pair * 16777216 + cell.attrs * 65536 + cell.character };
 
-    ghost coded = { λ n. record { byte = n % 256; attrs = n / 256 % 256; pair = n / 65536 } };
+    ghost coded = { λ n. record { character = n % 65536; attrs = n / 65536 % 256; pair = n / 16777216 } };
 
     fn packed(self) -> u32 {
         self.packed

@@ -12,7 +12,7 @@ ghost use Rattle.scr_cells.specs.Differences.{IsFirstDifference, IsLastDifferenc
 use crate::{Cell, Look};
 use std::simd::prelude::*;
 
-/// The lowest place at which two rows of cells differ in byte, attributes or colour pair; `None` if they are the same.
+/// The lowest place at which two rows of cells differ in character, attributes or colour pair; `None` if they are the same.
 /// The rows have one length.
 pub fn first_difference(a: &[Cell], b: &[Cell]) -> Option<usize>
     requires { length a.now ≡ length b.now }
@@ -21,7 +21,7 @@ pub fn first_difference(a: &[Cell], b: &[Cell]) -> Option<usize>
     first_place(a, b)
 }
 
-/// The highest place at which two rows of cells differ in byte, attributes or colour pair; `None` if they are the same.
+/// The highest place at which two rows of cells differ in character, attributes or colour pair; `None` if they are the same.
 /// The rows have one length.
 pub fn last_difference(a: &[Cell], b: &[Cell]) -> Option<usize>
     requires { length a.now ≡ length b.now }
@@ -30,7 +30,7 @@ pub fn last_difference(a: &[Cell], b: &[Cell]) -> Option<usize>
     last_place(a, b)
 }
 
-/// The lowest place at which two rows of looks differ in byte, attributes or colours; `None` if they are the same. The
+/// The lowest place at which two rows of looks differ in character, attributes or colours; `None` if they are the same. The
 /// rows have one length.
 pub fn first_look_difference(a: &[Look], b: &[Look]) -> Option<usize>
     requires { length a.now ≡ length b.now }
@@ -39,7 +39,7 @@ pub fn first_look_difference(a: &[Look], b: &[Look]) -> Option<usize>
     first_place(a, b)
 }
 
-/// The highest place at which two rows of looks differ in byte, attributes or colours; `None` if they are the same. The
+/// The highest place at which two rows of looks differ in character, attributes or colours; `None` if they are the same. The
 /// rows have one length.
 pub fn last_look_difference(a: &[Look], b: &[Look]) -> Option<usize>
     requires { length a.now ≡ length b.now }

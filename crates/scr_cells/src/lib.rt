@@ -7,6 +7,7 @@
 
 mod attributes;
 mod cells;
+mod characters;
 mod differences;
 mod grids;
 mod laws;
@@ -18,12 +19,13 @@ mod showing;
 mod sizes;
 
 pub use attributes::Attrs;
-pub use cells::{Cell, is_character};
+pub use cells::Cell;
+pub use characters::{is_ascii, is_character};
 pub use differences::{
     first_difference, first_look_difference, last_difference, last_look_difference, look_numbers,
 };
 pub use grids::Grid;
-pub use laws::{attribute_laws, grid_laws};
+pub use laws::{attribute_laws, character_laws, grid_laws};
 pub use looks::Look;
 pub use out_of_memory::NoMemory;
 pub use pens::Pen;

@@ -3,18 +3,18 @@ ghost use Rattle.std.specs.Prelude.{◌≡◌, ◌↔◌, ◌==◌, IsSome, IfSo
 ghost use Rattle.std.proofs.Common.{rules};
 ghost use Rattle.std.specs.Ordering.{eq_of_both, on};
 ghost use Rattle.std.specs.Cmp.Rules.{comparing};
-ghost use Rattle.scr_cells.specs.CellViews.{IsCharacter};
+ghost use Rattle.scr_cells.specs.Characters.{IsAscii};
 ghost use Rattle.scr_cells.specs.LookViews.{IsLook, blank};
 ghost use Rattle.scr_cells.specs.PenViews.{IsColour, pen_eq};
 
 use crate::differences::Packed;
-use crate::{Attrs, Pen, is_character};
+use crate::{Attrs, Pen, is_ascii};
 use std::marker::Model;
 
-/// What a terminal shows in one place: a byte 32 to 126, and the attributes and the colours that it is shown with
-/// (ECMA-48, 'graphic rendition').
+/// What a terminal shows in one place: a character of ASCII, 32 to 126, and the attributes and the colours that it is
+/// shown with (ECMA-48, 'graphic rendition').
 ///
-/// One `u32`: the byte in bits 0 to 7, the rest as in a `Pen`.
+/// One `u32`: the character in bits 0 to 15, the rest as in a `Pen`.
 #[derive(Clone, Copy, Debug)]
 pub struct Look {
     packed: u32,
@@ -27,11 +27,11 @@ impl Model for Look {
 
     ghost Value = { LookView };
 
-    ghost view = { λ a. record { byte = a.packed % 256; pen = coded_pen (a.packed / 256) } };
+    ghost view = { λ a. record { character = a.packed % 65536; pen = coded_pen (a.packed / 65536) } };
 
-    ghost invariant = { λ a. IsLook (record { byte = a.packed % 256; pen = coded_pen (a.packed / 256) }) };
+    ghost invariant = { λ a. IsLook (record { character = a.packed % 65536; pen = coded_pen (a.packed / 65536) }) };
 
-    ghost inverse = { λ v. record { packed = pen_code v.pen * 256 + v.byte } };
+    ghost inverse = { λ v. record { packed = pen_code v.pen * 65536 + v.character } };
 }
 
 impl Look {
@@ -43,8 +43,8 @@ impl Look {
         foreground: Option<u8>,
         background: Option<u8>,
     ) -> Option<Look>
-        ensures fits { IsSome result ↔ (IsCharacter byte × IfSome foreground IsColour × IfSome background IsColour) }
-        ensures holds { IfSome result (λ look. look ≡ record { byte = byte; pen = record { attrs = attrs.0; foreground = foreground; background = background } }) }
+        ensures fits { IsSome result ↔ (IsAscii byte × IfSome foreground IsColour × IfSome background IsColour) }
+        ensures holds { IfSome result (λ look. look ≡ record { character = byte; pen = record { attrs = attrs.0; foreground = foreground; background = background } }) }
     {
         let pen = Pen::new(attrs, foreground, background)?;
         Look::written(byte, pen)
@@ -52,10 +52,10 @@ impl Look {
 
     /// The look of a byte that is written with a pen; `None` if the byte is not 32 to 126.
     pub fn written(byte: u8, pen: Pen) -> Option<Look>
-        ensures character { IsSome result ↔ IsCharacter byte }
-        ensures holds { IfSome result (λ look. look ≡ record { byte = byte; pen = pen }) }
+        ensures character { IsSome result ↔ IsAscii byte }
+        ensures holds { IfSome result (λ look. look ≡ record { character = byte; pen = pen }) }
     {
-        if !is_character(byte) {
+        if !is_ascii(byte) {
             return None;
         }
         Some(Look {
@@ -70,21 +70,21 @@ impl Look {
         Look { packed: 32 }
     }
 
-    /// The byte, 32 to 126.
+    /// The character, a byte 32 to 126.
     pub fn byte(self) -> u8
-        ensures value { result ≡ self.byte }
+        ensures value { result ≡ self.character }
         ensures look { IsLook self }
     {
-        (self.packed % 256) as u8
+        (self.packed % 65536) as u8
     }
 
-    /// What the byte is written with.
+    /// What the character is written with.
     pub fn pen(self) -> Pen
         ensures value { result ≡ self.pen }
         ensures look { IsLook self }
     {
         Pen {
-            packed: self.packed / 256 * 256,
+            packed: self.packed / 65536 * 65536,
         }
     }
 
@@ -114,7 +114,7 @@ impl Look {
 }
 
 impl PartialEq for Look {
-    ghost eq = { eq_of_both (on (λ look. look.byte) ◌==◌) (on (λ look. look.pen) pen_eq) };
+    ghost eq = { eq_of_both (on (λ look. look.character) ◌==◌) (on (λ look. look.pen) pen_eq) };
 
     ghost laws = { Prim.search (comparing, rules) depth 8 };
 
@@ -127,9 +127,9 @@ impl Packed for Look {
     ghost use Rattle.std.specs.Prelude.{◌+◌, ◌*◌, ◌%◌, ◌/◌};
     ghost use Rattle.scr_cells.specs.Code.PackedPens.{coded_pen, pen_code};
 
-    ghost code = { λ look. pen_code look.pen * 256 + look.byte };
+    ghost code = { λ look. pen_code look.pen * 65536 + look.character };
 
-    ghost coded = { λ n. record { byte = n % 256; pen = coded_pen (n / 256) } };
+    ghost coded = { λ n. record { character = n % 65536; pen = coded_pen (n / 65536) } };
 
     fn packed(self) -> u32 {
         self.packed

@@ -12,8 +12,8 @@ use std::marker::Model;
 /// ground (X/Open Curses Issue 7, 'Attributes' and 'Color'; ECMA-48, 'graphic rendition'). A colour is 0 to 7, in
 /// the order black, red, green, yellow, blue, magenta, cyan, white, or `None`, the terminal's default.
 ///
-/// One `u32`: the attributes in bits 8 to 15, the foreground in bits 16 to 19, the background in bits 20 to 23, each
-/// colour as 1 more than it is and 0 for the default. Bits 0 to 7 are 0: a `Look` has its byte there.
+/// One `u32`: the attributes in bits 16 to 23, the foreground in bits 24 to 27, the background in bits 28 to 31, each
+/// colour as 1 more than it is and 0 for the default. Bits 0 to 15 are 0: a `Look` has its character there.
 #[derive(Clone, Copy, Debug)]
 pub struct Pen {
     pub(crate) packed: u32,
@@ -26,11 +26,11 @@ impl Model for Pen {
 
     ghost Value = { PenView };
 
-    ghost view = { λ a. coded_pen (a.packed / 256) };
+    ghost view = { λ a. coded_pen (a.packed / 65536) };
 
-    ghost invariant = { λ a. IsPen (coded_pen (a.packed / 256)) × (a.packed % 256 ≡ 0) };
+    ghost invariant = { λ a. IsPen (coded_pen (a.packed / 65536)) × (a.packed % 65536 ≡ 0) };
 
-    ghost inverse = { λ v. record { packed = pen_code v * 256 } };
+    ghost inverse = { λ v. record { packed = pen_code v * 65536 } };
 }
 
 impl Pen {
@@ -46,7 +46,9 @@ impl Pen {
             return None;
         }
         let code = code_of(background) * 4096 + code_of(foreground) * 256 + u32::from(attrs.0);
-        Some(Pen { packed: code * 256 })
+        Some(Pen {
+            packed: code * 65536,
+        })
     }
 
     /// The pen without attributes, in default colours.
@@ -61,7 +63,7 @@ impl Pen {
         ensures value { result.0 ≡ self.attrs }
         ensures pen { IsPen self }
     {
-        Attrs((self.packed / 256 % 256) as u8)
+        Attrs((self.packed / 65536 % 256) as u8)
     }
 
     /// The colour of the character, 0 to 7; `None` if it is the default.
@@ -69,7 +71,7 @@ impl Pen {
         ensures value { result ≡ self.foreground }
         ensures pen { IsPen self }
     {
-        colour_of(self.packed / 65536 % 16)
+        colour_of(self.packed / 16777216 % 16)
     }
 
     /// The colour of its ground, 0 to 7; `None` if it is the default.
@@ -77,7 +79,7 @@ impl Pen {
         ensures value { result ≡ self.background }
         ensures pen { IsPen self }
     {
-        colour_of(self.packed / 1048576)
+        colour_of(self.packed / 268435456)
     }
 
     /// The pen with these attributes in place of its own.
@@ -85,7 +87,7 @@ impl Pen {
         ensures { result ≡ record self { attrs = attrs.0 } }
     {
         Pen {
-            packed: self.packed / 65536 * 65536 + u32::from(attrs.0) * 256,
+            packed: self.packed / 16777216 * 16777216 + u32::from(attrs.0) * 65536,
         }
     }
 
@@ -95,9 +97,9 @@ impl Pen {
         ensures { result ≡ record self { foreground = foreground } }
     {
         Pen {
-            packed: self.packed / 1048576 * 1048576
-                + code_of(foreground) * 65536
-                + self.packed % 65536,
+            packed: self.packed / 268435456 * 268435456
+                + code_of(foreground) * 16777216
+                + self.packed % 16777216,
         }
     }
 
@@ -107,7 +109,7 @@ impl Pen {
         ensures { result ≡ record self { background = background } }
     {
         Pen {
-            packed: code_of(background) * 1048576 + self.packed % 1048576,
+            packed: code_of(background) * 268435456 + self.packed % 268435456,
         }
     }
 

@@ -71,7 +71,7 @@ impl Picture {
         requires { IsPlace self.old.rows self.old.columns (row, column) }
         ensures { self.new ≡ record self.old { lines = grid_with self.old.lines row column cell } }
     {
-        let _byte = cell.byte();
+        let _pair = cell.pair();
         self.grid.put(row, column, cell);
     }
 
@@ -187,6 +187,6 @@ fn each_is_cell(cells: &[Cell])
     ensures { All IsCell cells.now }
 {
     for cell in cells {
-        let _byte = cell.byte();
+        let _pair = cell.pair();
     }
 }

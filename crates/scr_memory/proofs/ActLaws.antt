@@ -68,8 +68,8 @@ grid_by profile (InsertChars n) (At r c) pen grid = grid_of profile.rows profile
 grid_by profile (DeleteChars n) (At r c) pen grid = grid_of profile.rows profile.columns (places_left r c profile.columns n blank (grid_at blank grid))
 grid_by profile (ScrollUp n) (At r c) pen grid = grid_of profile.rows profile.columns (rows_up 0 profile.rows n blank (grid_at blank grid))
 grid_by profile (ScrollDown n) (At r c) pen grid = grid_of profile.rows profile.columns (rows_down 0 profile.rows n blank (grid_at blank grid))
-grid_by profile (Repeat byte n) (At r c) pen grid = grid_with_run grid r c (replicate n (record { byte = byte; pen = pen }))
-grid_by profile (Put byte) (At r c) pen grid = grid_with grid r c (record { byte = byte; pen = pen })
+grid_by profile (Repeat byte n) (At r c) pen grid = grid_with_run grid r c (replicate n (record { character = byte; pen = pen }))
+grid_by profile (Put byte) (At r c) pen grid = grid_with grid r c (record { character = byte; pen = pen })
 grid_by profile op spot pen grid = grid
 
 -- ---- an operation acts on each of them
@@ -172,10 +172,10 @@ acts profile (Fore k) grid (Margin r) pen new e = (cc)
 acts profile (Back k) grid (At r c) pen new e = led profile (Back k) grid (At r c) pen new (whole grid (At r c) (record pen { background = Some k })) refl refl refl e
 acts profile (Back k) grid (Margin r) pen new e = (cc)
 acts profile (Put byte) grid (At r c) pen new e =
-    led profile (Put byte) grid (At r c) pen new (whole (grid_with grid r c (record { byte = byte; pen = pen })) (spot_after profile.columns r c) pen) refl refl refl e
+    led profile (Put byte) grid (At r c) pen new (whole (grid_with grid r c (record { character = byte; pen = pen })) (spot_after profile.columns r c) pen) refl refl refl e
 acts profile (Put byte) grid (Margin r) pen new e = (cc)
 acts profile (Repeat byte n) grid (At r c) pen new e =
-    led profile (Repeat byte n) grid (At r c) pen new (whole (grid_with_run grid r c (replicate n (record { byte = byte; pen = pen }))) (At r (c + n)) pen) refl refl refl (when _ _ new e)
+    led profile (Repeat byte n) grid (At r c) pen new (whole (grid_with_run grid r c (replicate n (record { character = byte; pen = pen }))) (At r (c + n)) pen) refl refl refl (when _ _ new e)
 acts profile (Repeat byte n) grid (Margin r) pen new e = (cc)
 
 -- ---- rows that were the same are the same then
@@ -244,10 +244,10 @@ rows_same profile (InsertChars n) (Margin row) pen a b first second r high still
 rows_same profile (DeleteChars n) (At row column) pen a b first second r high still same = left_same profile row column n a b r high same
 rows_same profile (DeleteChars n) (Margin row) pen a b first second r high still same = same
 rows_same profile (Put byte) (At row column) pen a b first second r high still same =
-    changed_same (λ line. slice_set line column (record { byte = byte; pen = pen })) a b row r (omega (arith, high, first.high)) (omega (arith, high, second.high)) same (r == row) refl
+    changed_same (λ line. slice_set line column (record { character = byte; pen = pen })) a b row r (omega (arith, high, first.high)) (omega (arith, high, second.high)) same (r == row) refl
 rows_same profile (Put byte) (Margin row) pen a b first second r high still same = same
 rows_same profile (Repeat byte n) (At row column) pen a b first second r high still same =
-    changed_same (λ line. line_with_run line column (replicate n (record { byte = byte; pen = pen }))) a b row r (omega (arith, high, first.high)) (omega (arith, high, second.high)) same (r == row) refl
+    changed_same (λ line. line_with_run line column (replicate n (record { character = byte; pen = pen }))) a b row r (omega (arith, high, first.high)) (omega (arith, high, second.high)) same (r == row) refl
 rows_same profile (Repeat byte n) (Margin row) pen a b first second r high still same = same
 rows_same profile Home spot pen a b first second r high still same = same
 rows_same profile (Move row column) spot pen a b first second r high still same = same

@@ -21,7 +21,7 @@ use Rattle.scr_term.specs.Operations.Steps.{act, runs, step}
 use Rattle.scr_term.specs.Operations.Texts.{has}
 use Rattle.scr_plan.proofs.StillLaws.{still_rows}
 use Rattle.scr_plan.proofs.JoinedPriceLaws.{price_is, put_price}
-use Rattle.scr_plan.proofs.PlaceLaws.{at_place, begun_run, cell_of, erases_line, goes_by, one_run, plain, then_runs}
+use Rattle.scr_plan.proofs.PlaceLaws.{at_place, begun_run, cell_of, erases_line, goes_by, one_run, plain, stand_in_had, then_runs}
 use Rattle.scr_plan.proofs.PartLaws.{is_here}
 use Rattle.scr_plan.proofs.PlainLaws.{look_same}
 use Rattle.scr_plan.proofs.ScratchLaws.{covered, own_look, place_changed}
@@ -171,16 +171,16 @@ jump_keeps laws have profile p picture fits painter who place high wide pen is o
 
 -- a character where the cursor is
 pub put_covers : RunLaws → ProfilesHave → GridLaws LookView → (profile : ProfileView) → IsProfile profile → (picture : PictureView) → IsPicture picture → Fits profile picture → (painter : Painter) → painter ≡ painter_of profile → (row column : ℕ) → row < picture.rows → column < picture.columns
-    → (byte : ℕ) (old new : Draft) (spot : Spot) → old.spot ≡ At row column → old.pen ≡ (painter_look painter picture (row, column)).pen → byte ≡ (painter_look painter picture (row, column)).byte → spot ≡ spot_after profile.columns row column
+    → (byte : ℕ) (old new : Draft) (spot : Spot) → old.spot ≡ At row column → old.pen ≡ (painter_look painter picture (row, column)).pen → byte ≡ (painter_look painter picture (row, column)).character → spot ≡ spot_after profile.columns row column
     → IsAdded profile old new (Put byte ∷ []) spot old.pen → Covers profile picture (in_part row column (column + 1)) old new
 put_covers laws have grids profile p picture k fits painter who row column high wide byte old new spot here pen is behind added waits paid first start right =
     let look : LookView = look_at profile picture (row, column) in
     let cell : IsCell (grid_at blank_cell picture.lines row column) = cell_of picture.lines row column (recursion_from_All (All IsCell) picture.lines k.cells) in
     let now : TerminalState = right.now in
-    let shown : LookView = record { byte = byte; pen = now.pen } in
-    let same : shown ≡ look = (λ i. record { byte = is i; pen = (right.pen ∙ pen) i }) ∙ ap (λ painter. painter_look painter picture (row, column)) who in
+    let shown : LookView = record { character = byte; pen = now.pen } in
+    let same : shown ≡ look = (λ i. record { character = is i; pen = (right.pen ∙ pen) i }) ∙ ap (λ painter. painter_look painter picture (row, column)) who in
     let next : TerminalState = record { grid = grid_with now.grid row column shown; spot = spot_after profile.columns row column; pen = now.pen } in
-    let had : has profile (Put byte) ≡ true = ap (λ look. has profile (Put look.byte)) same ∙ (have profile p).put look.byte cell.character in
+    let had : has profile (Put byte) ≡ true = ap (λ look. has profile (Put look.character)) same ∙ stand_in_had profile (have profile p) _ cell.character in
     let run : runs profile now (Put byte ∷ []) ≡ Some next = one_run profile now next (Put byte) had (ap (written_at profile.columns now byte) (right.spot ∙ here)) in
     drawn laws profile p (aim_of profile picture) paid first start (without (in_part row column (column + 1)) waits) old new (Put byte ∷ []) refl spot old.pen added right next run (sym behind) right.pen
     (λ r c up left e.
@@ -213,7 +213,7 @@ put_none profile picture fits row column wide old now here items keeps bytes spo
 }
 
 pub put_more : RunLaws → ProfilesHave → GridLaws LookView → (profile : ProfileView) → IsProfile profile → (picture : PictureView) → IsPicture picture → Fits profile picture → (painter : Painter) → painter ≡ painter_of profile → (row column place : ℕ) → row < picture.rows → column ≤ place → place < picture.columns
-    → (byte : ℕ) (old now new : Draft) → old.pen ≡ (painter_look painter picture (row, place)).pen → byte ≡ (painter_look painter picture (row, place)).byte → new.ops.items ≡ now.ops.items ++ Put byte ∷ [] → new.keeps ≡ now.keeps → new.bytes ≡ now.bytes → new.spot ≡ now.spot → new.pen ≡ now.pen
+    → (byte : ℕ) (old now new : Draft) → old.pen ≡ (painter_look painter picture (row, place)).pen → byte ≡ (painter_look painter picture (row, place)).character → new.ops.items ≡ now.ops.items ++ Put byte ∷ [] → new.keeps ≡ now.keeps → new.bytes ≡ now.bytes → new.spot ≡ now.spot → new.pen ≡ now.pen
     → IsPut profile picture row column place old now → IsPut profile picture row column (place + 1) old new
 put_more laws have grids profile p picture k fits painter who row column place high low wide byte old now new pen is added keeps bytes spot same_pen put = record {
   keeps = keeps ∙ put.keeps;

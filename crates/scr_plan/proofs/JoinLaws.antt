@@ -96,13 +96,13 @@ shown_same painter picture row before c cells are same = grind arith
 
 -- whether a place differs, by the byte and the pen of its cell
 pub differs_by : (painter : Painter) (picture : PictureView) (row : ℕ) (before : Option (List LookView)) (c : ℕ) (cells : List CellView) (byte : ℕ) (pen : PenView) → cells ≡ grid_row picture.lines row
-    → byte ≡ (painter_sees painter picture.pairs (get_or cells c blank_cell)).byte → pen ≡ (painter_sees painter picture.pairs (get_or cells c blank_cell)).pen
-    → record { byte = byte; pen = pen } ≡ painter_look painter picture (row, c)
+    → byte ≡ (painter_sees painter picture.pairs (get_or cells c blank_cell)).character → pen ≡ (painter_sees painter picture.pairs (get_or cells c blank_cell)).pen
+    → record { character = byte; pen = pen } ≡ painter_look painter picture (row, c)
 differs_by painter picture row before c cells byte pen are is_byte is_pen = grind arith
 
 pub place_shown : (painter : Painter) (picture : PictureView) (row : ℕ) (before : Option (List LookView)) (c : ℕ) (cells : List CellView) (byte : ℕ) (pen : PenView) → cells ≡ grid_row picture.lines row
-    → byte ≡ (painter_sees painter picture.pairs (get_or cells c blank_cell)).byte → pen ≡ (painter_sees painter picture.pairs (get_or cells c blank_cell)).pen
-    → {shown : Bool} → look_eq (shown_in before c) (record { byte = byte; pen = pen }) ≡ shown → row_differs painter picture before (row, c) ≡ not shown
+    → byte ≡ (painter_sees painter picture.pairs (get_or cells c blank_cell)).character → pen ≡ (painter_sees painter picture.pairs (get_or cells c blank_cell)).pen
+    → {shown : Bool} → look_eq (shown_in before c) (record { character = byte; pen = pen }) ≡ shown → row_differs painter picture before (row, c) ≡ not shown
 place_shown painter picture row before c cells byte pen are is_byte is_pen same = grind arith
 
 -- one place more that does not differ

@@ -78,7 +78,7 @@ erase_price profile = ap length (append-nil (bytes_of profile EraseLine))
 -- each place has a byte at least
 each_some : RunLaws → (profile : ProfileView) (picture : PictureView) (xs : List (ℕ × ℕ)) → length xs ≤ price profile (flat_map (paints_place profile picture) xs)
 each_some laws profile picture [] = omega arith
-each_some laws profile picture (x ∷ xs) = omega (arith, each_some laws profile picture xs, (price_is laws profile).joined, put_price profile (look_at profile picture x).byte)
+each_some laws profile picture (x ∷ xs) = omega (arith, each_some laws profile picture xs, (price_is laws profile).joined, put_price profile (look_at profile picture x).character)
 
 -- how many places of a part differ, and how many from a column on
 count_part : (d : ℕ × ℕ → Bool) (r e a n : ℕ) → e ≤ a → length (filter (λ c. leb e c && d (r, c)) (range_with_len a n)) ≡ length (filter d (part_places a n r))
@@ -143,7 +143,7 @@ row_less laws profile picture memory r = by (erased_column profile picture memor
         let few : length (bytes_of profile EraseLine) ≤ suc (length behind) =
         subst (λ n. length (bytes_of profile EraseLine) ≤ n) (count_from profile picture memory r e (omega (arith, can.inside)) ∙ ap (λ k. length (filter d (part_places e k r))) from ∙ ap length there) (worth_it profile picture memory r e at) in
         rw (row_erased profile picture memory r e at can.inside can.differs_there, cut)
-        (omega (arith, few, erase_price profile, put_price profile (look_at profile picture (r, e)).byte, each_some laws profile picture behind, fewer first, begins_less (price profile) m profile picture memory r e, m.joined))
+        (omega (arith, few, erase_price profile, put_price profile (look_at profile picture (r, e)).character, each_some laws profile picture behind, fewer first, begins_less (price profile) m profile picture memory r e, m.joined))
 
 rows_less : RunLaws → (profile : ProfileView) (picture : PictureView) (memory : MemoryView) (n : ℕ)
     → price profile (flat_map (joined_at profile picture memory) (filter (differs profile picture memory) (places n picture.columns)))

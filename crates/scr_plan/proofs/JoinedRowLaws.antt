@@ -1,11 +1,12 @@
 -- The joined repaint, row by row.
 use Rattle.std.proofs.Common.{◌≡◌, ℕ, ◌+◌, ◌-◌, ◌<◌, ◌≤◌, ◌⊎◌, inl, inr, not, Bool, true, false, refl, sym, ◌∙◌, ap, subst, arith, append_assoc, get_or, nat_lt, Result, OnOk, List, [], ◌∷◌, ◌++◌, filter, Option, Some, None, zero, suc, if◌then◌else◌}
-use Rattle.std.specs.List.{flat_map}
+use Rattle.std.specs.List.{All, flat_map}
 use Rattle.std.proofs.lemmas.Bool.Decides.{nat_tests}
 use Rattle.std.proofs.lemmas.List.{append-nil}
 use Rattle.std.proofs.lemmas.List.Elements.{recursion_from_All, filter-append}
-use Rattle.scr_cells.specs.CellViews.{CellView, IsCharacter, blank_cell}
-use Rattle.scr_cells.specs.Grids.{grid_row}
+use Rattle.scr_cells.specs.CellViews.{CellView, IsCell, blank_cell}
+use Rattle.scr_cells.specs.Characters.{IsCharacter}
+use Rattle.scr_cells.specs.Grids.{grid_at, grid_row}
 use Rattle.scr_cells.specs.LookViews.{LookView, blank}
 use Rattle.scr_cells.specs.PenViews.{PenView, pen_eq}
 use Rattle.scr_cells.specs.PictureViews.{PictureView, IsPicture}
@@ -21,7 +22,7 @@ use Rattle.scr_plan.proofs.JoinLaws.{differs_same, joins_same, known_row, painte
 use Rattle.scr_plan.proofs.JoinedLaws.{IsErasable, erasable, joined_assoc, row_erased, row_unerased}
 use Rattle.scr_plan.proofs.JoiningLaws.{counts_less, goes_on, nothing_goes, put_goes}
 use Rattle.scr_plan.proofs.PartLaws.{is_among, none_in_places, none_in_part, pen_refl, part_joined, row_in_part, row_known, row_more, same_place}
-use Rattle.scr_plan.proofs.PlaceLaws.{cell_of}
+use Rattle.scr_plan.proofs.PlaceLaws.{cell_of, stand_in_had}
 use Rattle.scr_plan.proofs.PlainLaws.{among_differing}
 use Rattle.scr_plan.specs.Code.Joinings.{Continues, CountsAtMost, ShowsRow, counted_up, joined_at}
 use Rattle.scr_plan.specs.Code.Painters.{is_that_pen, painter_begins, painter_look, painter_of, painter_writes, part_places, pen_before, row_differs, row_paints}
@@ -39,9 +40,9 @@ unless_there profile painter old left place pen that = grind (arith, nothing_goe
 
 -- ---- a place of a row
 
--- the byte of a cell is a character
-pub byte_is : (picture : PictureView) → IsPicture picture → (row column : ℕ) (cells : List CellView) (byte : ℕ) → cells ≡ grid_row picture.lines row → byte ≡ (get_or cells column blank_cell).byte → IsCharacter byte
-byte_is picture k row column cells byte are is = grind (arith, cell_of, recursion_from_All)
+-- a cell of a picture holds a character
+pub character_is : (picture : PictureView) → IsPicture picture → (row column : ℕ) → IsCharacter (grid_at blank_cell picture.lines row column).character
+character_is picture k row column = (cell_of picture.lines row column (recursion_from_All (All IsCell) picture.lines k.cells)).character
 
 -- places that are passed add nothing
 pub passed_goes : (profile : ProfileView) (painter : Painter) (picture : PictureView) (before : Option (List LookView)) (row column next : ℕ) (old : Draft) → column < next
@@ -190,7 +191,7 @@ one_counted laws have profile p painter picture k before row column unlike old m
     let look : LookView = painter_look painter picture (row, column) in
     painted_goes profile painter picture before row column old new left look unlike is_left refl
     (goes_on profile old mid new _ _ begun
-    (put_goes laws have profile p look.byte (byte_is picture k row column (grid_row picture.lines row) look.byte refl refl) mid new row column here (λ kept. (cc)) (λ dropped. same) paid keeps behind pen))
+    (put_goes laws profile p look.character (stand_in_had profile (have profile p) _ (character_is picture k row column)) mid new row column here (λ kept. (cc)) (λ dropped. same) paid keeps behind pen))
 
 Counts : ProfileView → Painter → PictureView → Option (List LookView) → ℕ → ℕ → ℕ → Draft → Draft → Type 0
 Counts profile painter picture before row column next old mid =

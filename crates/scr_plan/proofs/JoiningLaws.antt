@@ -6,7 +6,6 @@ use Rattle.std.proofs.lemmas.List.{append-nil}
 use Rattle.std.proofs.lemmas.Nat.{and_le_r}
 use Rattle.std.proofs.Math.Bool.{or-true}
 use Rattle.std.proofs.Math.Seq.{drop-append_seam, take-append_seam}
-use Rattle.scr_cells.specs.CellViews.{IsCharacter}
 use Rattle.scr_cells.specs.Grids.{grid_with, is_in_run}
 use Rattle.scr_cells.specs.PenViews.{PenView, is_plain_pen, plain_pen}
 use Rattle.scr_cells.specs.PictureViews.{PictureView, IsPicture, IsPlace}
@@ -148,13 +147,13 @@ begin_goes laws have profile p picture k painter who place inside pen is old new
     refl (sym is)
 
 -- a character
-pub put_goes : RunLaws → ProfilesHave → (profile : ProfileView) → IsProfile profile → (byte : ℕ) → IsCharacter byte → (old new : Draft) (r c : ℕ) → old.spot ≡ At r c
+pub put_goes : RunLaws → (profile : ProfileView) → IsProfile profile → (byte : ℕ) → has profile (Put byte) ≡ true → (old new : Draft) (r c : ℕ) → old.spot ≡ At r c
     → (old.keeps ≡ true → new.ops.items ≡ old.ops.items ++ Put byte ∷ []) → (old.keeps ≡ false → new.ops.items ≡ old.ops.items) → new.bytes ≡ counted_up (old.bytes + 1) → new.keeps ≡ old.keeps → new.spot ≡ spot_after profile.columns r c → new.pen ≡ old.pen
     → Continues profile old new (Put byte ∷ [])
-put_goes laws have profile p byte is old new r c here added left paid keeps behind pen stores first start all joining =
+put_goes laws profile p byte had old new r c here added left paid keeps behind pen stores first start all joining =
     let now : TerminalState = joining.now in
-    let next : TerminalState = record { grid = grid_with now.grid r c (record { byte = byte; pen = now.pen }); spot = spot_after profile.columns r c; pen = now.pen } in
-    let run : runs profile now (Put byte ∷ []) ≡ Some next = one_run profile now next (Put byte) ((have profile p).put byte is) (ap (written_at profile.columns now byte) (joining.spot ∙ here)) in
+    let next : TerminalState = record { grid = grid_with now.grid r c (record { character = byte; pen = now.pen }); spot = spot_after profile.columns r c; pen = now.pen } in
+    let run : runs profile now (Put byte ∷ []) ≡ Some next = one_run profile now next (Put byte) had (ap (written_at profile.columns now byte) (joining.spot ∙ here)) in
     led laws profile p stores first start all old new (Put byte ∷ []) (Put byte ∷ []) next.spot old.pen next
     (record { keeps = keeps; ops = added; left = left; bytes = λ _. paid ∙ ap (λ n. counted_up (old.bytes + n)) (sym (put_price profile byte)); spot_is = behind; pen_is = pen }) joining
     (busy_becomes profile now next (Put byte ∷ []) run (busy profile now (Put byte) (λ s. refl) [] (λ s. refl))) refl joining.pen

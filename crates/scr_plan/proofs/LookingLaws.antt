@@ -145,16 +145,16 @@ pub record IsKeptRest (painter : Painter) (picture : PictureView) (row : ℕ) (b
   pub few : rest.count ≤ end - rest.begin
 
 pub rest_more : (painter : Painter) (picture : PictureView) (row : ℕ) (before : Option (List LookView)) (from end : ℕ) (cells : List CellView) (old new : Rest) (byte : ℕ) (pen : PenView)
-    → from < old.begin → cells ≡ grid_row picture.lines row → byte ≡ (painter_sees painter picture.pairs (get_or cells (old.begin - 1) blank_cell)).byte → pen ≡ (painter_sees painter picture.pairs (get_or cells (old.begin - 1) blank_cell)).pen
-    → look_eq (record { byte = byte; pen = pen }) blank ≡ true → new.begin ≡ old.begin - 1
-    → new.first ≡ (if look_eq (shown_in before (old.begin - 1)) (record { byte = byte; pen = pen }) then old.first else Some (old.begin - 1))
-    → new.count ≡ (if look_eq (shown_in before (old.begin - 1)) (record { byte = byte; pen = pen }) then old.count else old.count + 1)
+    → from < old.begin → cells ≡ grid_row picture.lines row → byte ≡ (painter_sees painter picture.pairs (get_or cells (old.begin - 1) blank_cell)).character → pen ≡ (painter_sees painter picture.pairs (get_or cells (old.begin - 1) blank_cell)).pen
+    → look_eq (record { character = byte; pen = pen }) blank ≡ true → new.begin ≡ old.begin - 1
+    → new.first ≡ (if look_eq (shown_in before (old.begin - 1)) (record { character = byte; pen = pen }) then old.first else Some (old.begin - 1))
+    → new.count ≡ (if look_eq (shown_in before (old.begin - 1)) (record { character = byte; pen = pen }) then old.count else old.count + 1)
     → IsKeptRest painter picture row before from end old → IsKeptRest painter picture row before from end new
 rest_more painter picture row before from end cells old new byte pen more are is_byte is_pen blank_here begin first count is =
     let a = old.begin - 1 in
     let d = differs_in painter picture row before in
-    let look : record { byte = byte; pen = pen } ≡ painter_look painter picture (row, a) = differs_by painter picture row before a cells byte pen are is_byte is_pen in
-    let shown = look_eq (shown_in before a) (record { byte = byte; pen = pen }) in
+    let look : record { character = byte; pen = pen } ≡ painter_look painter picture (row, a) = differs_by painter picture row before a cells byte pen are is_byte is_pen in
+    let shown = look_eq (shown_in before a) (record { character = byte; pen = pen }) in
     let differs_here : d a ≡ not shown = ap not (sym (ap (look_eq (shown_in before a)) look)) in
     let next : old.begin ≡ a + 1 = omega (arith, more) in
     let whole : end - new.begin ≡ suc (end - old.begin) = omega (arith, begin, more, is.high) in
@@ -171,7 +171,7 @@ rest_more painter picture row before from end cells old new byte pen more are is
       few = omega (arith, less, counted);
     }
   where
-    either : (c : ℕ) → new.begin ≤ c → c < end → (b : Bool) → (c == (old.begin - 1)) ≡ b → record { byte = byte; pen = pen } ≡ painter_look painter picture (row, old.begin - 1) → look_eq (painter_look painter picture (row, c)) blank ≡ true
+    either : (c : ℕ) → new.begin ≤ c → c < end → (b : Bool) → (c == (old.begin - 1)) ≡ b → record { character = byte; pen = pen } ≡ painter_look painter picture (row, old.begin - 1) → look_eq (painter_look painter picture (row, c)) blank ≡ true
     either c low high true e look = let same : c ≡ old.begin - 1 = grind (arith, nat_tests) in ap (λ c. look_eq (painter_look painter picture (row, c)) blank) same ∙ sym (ap (λ l. look_eq l blank) look) ∙ blank_here
     either c low high false e look = let above : old.begin ≤ c = grind (arith, nat_tests, begin, more) in is.blanks c above high
 

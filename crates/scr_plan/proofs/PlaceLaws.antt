@@ -9,15 +9,16 @@ use Rattle.std.proofs.lemmas.Nat.{and_le_l}
 use Rattle.std.proofs.lemmas.Nat.Bits.{same_from_bits, bit_at_and}
 use Rattle.scr_cells.specs.Attributes.{all_attributes, attributes_of}
 use Rattle.scr_cells.specs.CellViews.{CellView, IsCell, blank_cell}
+use Rattle.scr_cells.specs.Characters.{IsCharacter, stand_in}
 use Rattle.scr_cells.specs.Grids.{grid_at, is_in_run}
 use Rattle.scr_cells.specs.LookViews.{LookView}
 use Rattle.scr_cells.specs.PenViews.{is_plain_pen, pair_colours, plain_pen}
 use Rattle.scr_cells.specs.PictureViews.{PictureView, IsPicture, IsPlace}
 use Rattle.scr_term.specs.declared.operations.capability.Capability.TheVariants.{Sgr0}
 use Rattle.scr_term.specs.declared.operations.operation.Op.{Op}
-use Rattle.scr_term.specs.declared.operations.operation.Op.TheVariants.{EraseBelow, EraseLine, Move, Reset}
+use Rattle.scr_term.specs.declared.operations.operation.Op.TheVariants.{EraseBelow, EraseLine, Move, Put, Reset}
 use Rattle.scr_term.specs.declared.operations.operation.Spot.TheVariants.{At}
-use Rattle.scr_term.specs.Operations.Laws.{HasLaws, ProfilesHave, RunLaws}
+use Rattle.scr_term.specs.Operations.Laws.{HasLaws, ProfilesHave, RunLaws, WritesStandIns}
 use Rattle.scr_term.specs.Operations.Profiles.{ProfileView, IsProfile, abilities, has_colours, is_there, shown_set}
 use Rattle.scr_term.specs.Operations.States.{TerminalState, IsShownPen, erased, from_place, is_from_place, rest_of_line_erased}
 use Rattle.scr_term.specs.Operations.Steps.{act, lines_below_erased, runs, step}
@@ -131,10 +132,15 @@ background_set : (profile : ProfileView) → HasLaws profile → (old : Terminal
     → runs profile (with_pen old place attrs f None) (sets_background b) ≡ Some (with_pen old place attrs f b)
 background_set profile can old place attrs f b seen = grind arith
 
+-- what stands in for a character can be written
+pub stand_in_had : (profile : ProfileView) → HasLaws profile → (code : ℕ) → IsCharacter code → has profile (Put (stand_in code)) ≡ true
+unfolding WritesStandIns
+stand_in_had profile can code is = can.stand_ins code is
+
 -- ---- what is seen of a cell
 
 pub blank_is_cell : IsCell blank_cell
-blank_is_cell = record { character = (omega arith, omega arith); attributes = omega arith; pair = omega arith }
+blank_is_cell = record { character = refl; attributes = omega arith; pair = omega arith }
 
 pub cell_of_row : (cells : List CellView) (c : ℕ) → AllByRecursion IsCell cells → IsCell (get_or cells c blank_cell)
 cell_of_row [] c each = blank_is_cell
@@ -181,4 +187,7 @@ begun_run laws have profile p picture k place old =
     (background_set profile can old place attrs look.pen.foreground look.pen.background seen.1)
 
 pub place_is_painted : RunLaws → ProfilesHave → PlaceIsPainted
-place_is_painted laws have profile p picture k place inside old s = grind (arith, cell_of, recursion_from_All, then_runs, goes_by, begun_run, one_run)
+place_is_painted laws have profile p picture k place inside old s =
+    let cell : IsCell (grid_at blank_cell picture.lines place.0 place.1) = cell_of picture.lines place.0 place.1 (recursion_from_All (All IsCell) picture.lines k.cells) in
+    let had : has profile (Put (look_at profile picture place).character) ≡ true = stand_in_had profile (have profile p) _ cell.character in
+    grind (arith, then_runs, goes_by, begun_run, one_run)

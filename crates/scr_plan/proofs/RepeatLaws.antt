@@ -41,12 +41,12 @@ run_shows row column next r c look old order =
 
 pub repeat_covers : RunLaws → GridLaws LookView → (profile : ProfileView) → IsProfile profile → (picture : PictureView) → Fits profile picture → (painter : Painter) → painter ≡ painter_of profile → (row column next : ℕ) → row < picture.rows → column < next → next < picture.columns
     → (byte : ℕ) (old new : Draft) → has profile (Repeat byte (next - column)) ≡ true → old.spot ≡ At row column
-    → ((c : ℕ) → column ≤ c → c < next → old.pen ≡ (painter_look painter picture (row, c)).pen) → ((c : ℕ) → column ≤ c → c < next → byte ≡ (painter_look painter picture (row, c)).byte)
+    → ((c : ℕ) → column ≤ c → c < next → old.pen ≡ (painter_look painter picture (row, c)).pen) → ((c : ℕ) → column ≤ c → c < next → byte ≡ (painter_look painter picture (row, c)).character)
     → IsAdded profile old new (Repeat byte (next - column) ∷ []) (At row next) old.pen → Covers profile picture (in_part row column next) old new
 repeat_covers laws grids profile p picture fits painter who row column next high order inside byte old new had here pens bytes added waits paid first start right =
     let now : TerminalState = right.now in
     let n : ℕ = next - column in
-    let look : LookView = record { byte = byte; pen = now.pen } in
+    let look : LookView = record { character = byte; pen = now.pen } in
     let back : column + n ≡ next = omega (arith, order) in
     let narrow : nat_lt (column + n) profile.columns ≡ true = grind (arith, nat_tests, inside, fits.columns, back) in
     let count = length-replicate n look in
@@ -63,11 +63,11 @@ repeat_covers laws grids profile p picture fits painter who row column next high
     ∙ run_shows row column next r c look (grid_at blank now.grid r c) order
     ∙ covered (is_in_run row column next r c) (waits (r, c)) (in_part row column next (r, c)) look _ _ e (right.shows r c up left) (λ at. at) (shown r c))
   where
-    shown : (r c : ℕ) → is_in_run row column next r c ≡ true → record { byte = byte; pen = right.now.pen } ≡ look_at profile picture (r, c)
+    shown : (r c : ℕ) → is_in_run row column next r c ≡ true → record { character = byte; pen = right.now.pen } ≡ look_at profile picture (r, c)
     shown r c at =
         let row_is : r ≡ row = grind arith in
         let low : column ≤ c = grind arith in
         let below : c < next = grind arith in
-        (λ i. record { byte = bytes c low below i; pen = (right.pen ∙ pens c low below) i })
+        (λ i. record { character = bytes c low below i; pen = (right.pen ∙ pens c low below) i })
         ∙ ap (λ painter. painter_look painter picture (row, c)) who
         ∙ ap (λ r. look_at profile picture (r, c)) (sym row_is)

@@ -1,10 +1,12 @@
 -- Runs that wait: what is in them.
-use Rattle.std.proofs.Common.{◌≡◌, ℕ, zero, suc, ◌-◌, ◌<◌, ◌≤◌, ◌==◌, ◌&&◌, ◌||◌, not, true, false, refl, sym, ◌∙◌, ap, arith, List, [], ◌∷◌, ◌++◌, drop, get_or, length, length-drop, set, take}
+use Rattle.std.proofs.Common.{◌≡◌, ℕ, Bool, nat_lt, option_map, zero, suc, ◌-◌, ◌<◌, ◌≤◌, ◌==◌, ◌&&◌, ◌||◌, not, true, false, refl, sym, ◌∙◌, ap, arith, subst, List, [], ◌∷◌, ◌++◌, drop, get_or, length, length-drop, set, take}
+use Rattle.std.proofs.lemmas.Bool.Decides.{nat_tests}
 use Rattle.std.proofs.lemmas.List.{take_all}
 use Rattle.scr_cells.specs.PictureViews.{PictureView}
 use Rattle.scr_term.specs.Operations.Profiles.{ProfileView}
 use Rattle.scr_plan.proofs.DraftLaws.{weaker}
 use Rattle.scr_plan.specs.Code.Drafts.{Covers, KeepsOthers, KeepsRuns, Leaves, in_runs, is_in, no_run, without}
+use Rattle.scr_plan.specs.Code.Painters.{row_differs}
 use Rattle.scr_plan.specs.Code.Runs.{CutsOff, IsSameRow, differs_at}
 use Rattle.scr_plan.specs.declared.runs.Cut.{Cut}
 use Rattle.scr_prices.specs.declared.runs.Run.{Run}
@@ -79,3 +81,23 @@ pub cut_more : (start old new : Cut) (run : Run) (some more : List Run) → IsSa
     → ((c : ℕ) → start.column ≤ c → c < old.column → differs_at start c ≡ true → in_runs some (start.line.row, c) ≡ true)
     → (c : ℕ) → start.column ≤ c → c < new.column → differs_at start c ≡ true → in_runs more (start.line.row, c) ≡ true
 cut_more start old new run some more same cuts is has c low high differs = grind (arith, in_more, one_more)
+
+-- what is cut off after columns that do not differ is cut off from there on
+pub cut_from : (old mid new : Cut) (run : Run) → old.column ≤ mid.column → IsSameRow old mid → ((c : ℕ) → old.column ≤ c → c < mid.column → differs_at old c ≡ false) → CutsOff mid new run → CutsOff old new run
+cut_from old mid new run more same none cut = record {
+  more = omega (arith, more, cut.more);
+  has = λ c low high differs. by c low high differs (nat_lt c mid.column) refl;
+}
+  where
+    by : (c : ℕ) → old.column ≤ c → c < new.column → differs_at old c ≡ true → (t : Bool) → nat_lt c mid.column ≡ t → is_in run (old.line.row, c) ≡ true
+    by c low high differs true e = let below : c < mid.column = grind (arith, nat_tests) in never (none c low below) differs
+      where
+        never : {b : Bool} → b ≡ false → b ≡ true → is_in run (old.line.row, c) ≡ true
+        never {b} off on = (cc)
+    by c low high differs false e =
+        let from : mid.column ≤ c = grind (arith, nat_tests) in
+        let at : differs_at mid c ≡ differs_at old c = λ i. row_differs (same.scene i).painter (same.scene i).picture.now (option_map (λ looks. looks.now) (same.line i).before) ((same.line i).row, c) in
+        ap (λ line. is_in run (line.row, c)) (sym same.line) ∙ cut.has c from high (at ∙ differs)
+
+pub cut_as : (old new other : Cut) (run one : Run) → new ≡ other → run ≡ one → CutsOff old other one → CutsOff old new run
+cut_as old new other run one same is cut = subst (λ cut. CutsOff old cut run) (sym same) (subst (λ run. CutsOff old other run) (sym is) cut)

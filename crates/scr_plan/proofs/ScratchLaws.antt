@@ -191,7 +191,7 @@ goes_few profile place = grind arith
 place_few : (profile : ProfileView) (picture : PictureView) (place : ℕ × ℕ) → length (paints_place profile picture place) ≤ 12
 place_few profile picture place =
     let look : LookView = look_at profile picture place in
-    let put : List Op = Put look.byte ∷ [] in
+    let put : List Op = Put look.character ∷ [] in
     omega (arith, goes_few profile place, renders_few look.pen, length-append (goes profile place ++ renders look.pen) put, length-append (goes profile place) (renders look.pen))
 
 -- so many for each

@@ -252,6 +252,16 @@ knows_begun laws have memories profile p memory may row high wide new begun =
 
 -- ---- one row more
 
+-- a row that was known
+known_settled : (known : ℕ → Bool) (row r : ℕ) (differs filled : Bool) → known row ≡ true → (if known r then differs else (if ltb r (row + 1) then filled else true)) ≡ false
+    → (if known r then differs else (if ltb r row then filled else true)) ≡ false
+known_settled known row r differs filled is e = grind (arith, nat_tests)
+
+pub known_stays : (profile : ProfileView) (picture : PictureView) (memory : MemoryView) (row : ℕ) (draft : Draft) → is_known_row memory row ≡ true
+    → Keeps profile picture (unsettled profile picture memory row) (unsettled profile picture memory (row + 1)) draft draft
+known_stays profile picture memory row draft known =
+    weaker profile picture (unsettled profile picture memory row) (unsettled profile picture memory (row + 1)) draft (λ place e. known_settled (is_known_row memory) row place.0 _ _ known e)
+
 -- a row that was not known, and was erased
 pub unknown_wiped : (profile : ProfileView) (picture : PictureView) (memory : MemoryView) (row : ℕ) (old new : Draft) → is_known_row memory row ≡ false → WipesRow profile picture row old new
     → Keeps profile picture (unsettled profile picture memory row) (unsettled profile picture memory (row + 1)) old new

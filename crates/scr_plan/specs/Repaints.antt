@@ -21,7 +21,7 @@ use Rattle.scr_plan.specs.Scratch.{Fits, RunsToShow, goes, look_at, paints_place
 
 -- Two looks are the same: character and pen.
 abbrev pub look_eq : LookView → LookView → Bool
-look_eq a b = a.byte == b.byte && pen_eq a.pen b.pen
+look_eq a b = a.character == b.character && pen_eq a.pen b.pen
 
 -- The look that the remembered state has in a place.
 abbrev pub look_in : MemoryView → ℕ × ℕ → LookView
@@ -84,7 +84,7 @@ begins_place profile picture memory r c =
 
 -- What paints a place: after such a neighbour its character alone.
 abbrev pub brief_place : ProfileView → PictureView → MemoryView → ℕ × ℕ → List Op
-brief_place profile picture memory place = begins_place profile picture memory place.0 place.1 ++ Put (look_at profile picture place).byte ∷ []
+brief_place profile picture memory place = begins_place profile picture memory place.0 place.1 ++ Put (look_at profile picture place).character ∷ []
 
 -- ---- the joined repaint: what an update sends no more than
 

@@ -54,7 +54,7 @@ goes profile place = if profile.msgr then Move place.0 place.1 ∷ resets profil
 -- Paints one place: the cursor there, its attributes and colours, and its character.
 abbrev pub paints_place : ProfileView → PictureView → ℕ × ℕ → List Op
 paints_place profile picture place =
-    goes profile place ++ renders (look_at profile picture place).pen ++ Put (look_at profile picture place).byte ∷ []
+    goes profile place ++ renders (look_at profile picture place).pen ++ Put (look_at profile picture place).character ∷ []
 
 -- The places of row r, from the left.
 abbrev pub row_places : ℕ → ℕ → List (ℕ × ℕ)

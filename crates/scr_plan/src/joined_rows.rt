@@ -2,7 +2,7 @@
 //! it is painted with the same pen, and the rest of the line is erased if that is worth it.
 ghost use Rattle.std.specs.Prelude.{ℕ, ◌≡◌, ◌+◌, ◌++◌, ◌∷◌, [], ◌-◌, ◌<◌, ◌≤◌, ◌⊎◌, IfOk, IfSome, None, Some, OnOk, filter, false, true, length, option_map, if◌then◌else◌};
 ghost use Rattle.std.specs.List.{flat_map};
-ghost use Rattle.scr_cells.specs.CellViews.{IsCharacter};
+ghost use Rattle.scr_cells.specs.Characters.{IsAscii};
 ghost use Rattle.scr_cells.specs.LookViews.{blank};
 ghost use Rattle.scr_term.specs.declared.operations.operation.Op.TheVariants.{EraseLine};
 ghost use Rattle.scr_term.specs.declared.operations.operation.Spot.TheVariants.{At};
@@ -18,7 +18,7 @@ ghost use Rattle.scr_plan.specs.Code.Scenes.{IsLine, IsScene};
 use crate::looking::{is_shown_in, is_that_pen};
 use crate::scenes::{Line, Scene};
 use crate::strokes::Draft;
-use scr_cells::{Look, NoMemory, Pen};
+use scr_cells::{Look, NoMemory, Pen, character_laws};
 use scr_prices::Target;
 use scr_term::{profiles_have, run_laws};
 
@@ -110,6 +110,7 @@ impl Draft {
         ensures after { IfOk result (λ next. IsAfter scene.now.picture.now.columns self.new line.now.row next.0 next.1) }
         ensures all { IfOk result (λ next. Continues scene.now.profile.now self.old self.new (flat_map (row_paints scene.now.painter scene.now.picture.now (option_map (λ looks. looks.now) line.now.before)) (filter (row_differs scene.now.painter scene.now.picture.now (option_map (λ looks. looks.now) line.now.before)) (part_places column (next.0 - column) line.now.row)))) }
     {
+        character_laws();
         let _size = scene.picture.size();
         let (byte, pen) = scene.seen_in(line.cells, column);
         if is_shown_in(line.before, column, byte, pen) {
@@ -190,10 +191,10 @@ impl Draft {
         requires scene { IsScene scene.now }
         requires row { to.now.row < scene.now.picture.now.rows }
         requires column { to.now.column < scene.now.picture.now.columns }
-        requires look { record { byte = byte; pen = to.now.pen } ≡ painter_look scene.now.painter scene.now.picture.now (to.now.row, to.now.column) }
-        requires byte { IsCharacter byte }
+        requires look { record { character = byte; pen = to.now.pen } ≡ painter_look scene.now.painter scene.now.picture.now (to.now.row, to.now.column) }
+        requires byte { IsAscii byte }
         requires after { IsAfter scene.now.picture.now.columns self.old to.now.row to.now.column left }
-        ensures all { OnOk result (Continues scene.now.profile.now self.old self.new (painter_writes scene.now.painter left (to.now.row, to.now.column) (record { byte = byte; pen = to.now.pen }))) }
+        ensures all { OnOk result (Continues scene.now.profile.now self.old self.new (painter_writes scene.now.painter left (to.now.row, to.now.column) (record { character = byte; pen = to.now.pen }))) }
         ensures after { OnOk result (IsAfter scene.now.picture.now.columns self.new to.now.row (to.now.column + 1) (Some to.now.pen)) }
     {
         self.join_begin_unless(scene, to, left)?;

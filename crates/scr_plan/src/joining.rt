@@ -1,7 +1,7 @@
 //! The joined repaint, operation by operation: each is counted, and kept if that is asked for.
 //! `specs/Repaints.antt` defines it.
 ghost use Rattle.std.specs.Prelude.{◌≡◌, ◌+◌, ◌≤◌, ◌++◌, ◌∷◌, [], ◌⊎◌, All, IfOk, IfSome, OnOk, length, true};
-ghost use Rattle.scr_cells.specs.CellViews.{IsCharacter};
+ghost use Rattle.scr_cells.specs.Characters.{IsAscii};
 ghost use Rattle.scr_cells.specs.PenViews.{is_plain_pen, plain_pen};
 ghost use Rattle.scr_cells.specs.PictureViews.{IsPlace};
 ghost use Rattle.scr_term.specs.declared.operations.operation.Op.TheVariants.{EraseLine, Put};
@@ -117,7 +117,7 @@ impl Draft {
     ) -> Result<(), NoMemory>
         requires here { self.old.spot ≡ At row column }
         requires place { IsPlace profile.now.rows profile.now.columns (row, column) }
-        requires byte { IsCharacter byte }
+        requires byte { IsAscii byte }
         ensures all { OnOk result (Continues profile.now self.old self.new (Put byte ∷ [])) }
         ensures spot { OnOk result (self.new.spot ≡ spot_after profile.now.columns row column) }
         ensures pen { OnOk result (self.new.pen ≡ self.old.pen) }

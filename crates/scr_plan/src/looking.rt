@@ -1,6 +1,7 @@
 //! Finding the places of a row that differ from what it shows, and the blanks at its end.
 ghost use Rattle.std.specs.Prelude.{ℕ, ◌≡◌, ◌≢◌, ◌+◌, ◌-◌, ◌<◌, ◌≤◌, ◌⊎◌, IfSome, List, Option, Some, false, true, length, option_map, slice_index_or, if◌then◌else◌};
 ghost use Rattle.scr_cells.specs.CellViews.{blank_cell};
+ghost use Rattle.scr_cells.specs.Characters.{stand_in};
 ghost use Rattle.scr_cells.specs.Grids.{grid_row};
 ghost use Rattle.scr_cells.specs.LookViews.{blank};
 ghost use Rattle.scr_cells.specs.Showing.{HasRendition};
@@ -22,7 +23,7 @@ impl Scene<'_> {
     #[inline(always)]
     pub(crate) fn seen_in(&self, cells: &[Cell], column: u32) -> (u8, Pen)
         requires { column < length cells.now }
-        ensures byte { result.0 ≡ (painter_sees self.now.painter self.now.picture.now.pairs (slice_index_or cells.now column blank_cell)).byte }
+        ensures byte { result.0 ≡ (painter_sees self.now.painter self.now.picture.now.pairs (slice_index_or cells.now column blank_cell)).character }
         ensures pen { result.1 ≡ (painter_sees self.now.painter self.now.picture.now.pairs (slice_index_or cells.now column blank_cell)).pen }
     {
         let cell = cell_in(cells, column);
@@ -157,7 +158,7 @@ impl Scene<'_> {
         requires width { IfSome line.now.before (λ looks. column < length looks.now) }
         ensures attrs { result ≡ false → first.attrs ≡ (slice_index_or line.now.cells.now column blank_cell).attrs }
         ensures pair { result ≡ false → first.pair ≡ (slice_index_or line.now.cells.now column blank_cell).pair }
-        ensures unlike { result ≡ false → look_eq (shown_in (option_map (λ looks. looks.now) line.now.before) column) (record { byte = (slice_index_or line.now.cells.now column blank_cell).byte; pen = pen }) ≡ false }
+        ensures unlike { result ≡ false → look_eq (shown_in (option_map (λ looks. looks.now) line.now.before) column) (record { character = stand_in (slice_index_or line.now.cells.now column blank_cell).character; pen = pen }) ≡ false }
     {
         let cell = cell_in(line.cells, column);
         !are_alike(first, cell) || is_shown_in(line.before, column, cell.byte(), pen)
@@ -253,8 +254,8 @@ impl Rest {
         requires width { IfSome before (λ looks. self.begin ≤ length looks.now) }
         requires few { self.count ≤ 500 }
         ensures begin { result.begin ≡ self.begin - 1 }
-        ensures first { result.first ≡ if look_eq (shown_in (option_map (λ looks. looks.now) before.entry) (self.begin - 1)) (record { byte = byte; pen = pen }) then self.first else Some (self.begin - 1) }
-        ensures count { result.count ≡ if look_eq (shown_in (option_map (λ looks. looks.now) before.entry) (self.begin - 1)) (record { byte = byte; pen = pen }) then self.count else self.count + 1 }
+        ensures first { result.first ≡ if look_eq (shown_in (option_map (λ looks. looks.now) before.entry) (self.begin - 1)) (record { character = byte; pen = pen }) then self.first else Some (self.begin - 1) }
+        ensures count { result.count ≡ if look_eq (shown_in (option_map (λ looks. looks.now) before.entry) (self.begin - 1)) (record { character = byte; pen = pen }) then self.count else self.count + 1 }
     {
         let begin = self.begin - 1;
         if is_shown_in(before, begin, byte, pen) {
@@ -306,7 +307,7 @@ pub(crate) fn are_alike(a: Cell, b: Cell) -> bool
 // Whether a blank is seen.
 #[inline(always)]
 fn is_blank(byte: u8, pen: Pen) -> bool
-    ensures { result ≡ look_eq (record { byte = byte; pen = pen }) blank }
+    ensures { result ≡ look_eq (record { character = byte; pen = pen }) blank }
 {
     byte == b' ' && pen.is_plain()
 }
@@ -315,7 +316,7 @@ fn is_blank(byte: u8, pen: Pen) -> bool
 #[inline(always)]
 pub(crate) fn is_shown_in(before: Option<&[Look]>, column: u32, byte: u8, pen: Pen) -> bool
     requires { IfSome before (λ looks. column < length looks.now) }
-    ensures { result ≡ look_eq (shown_in (option_map (λ looks. looks.now) before.entry) column) (record { byte = byte; pen = pen }) }
+    ensures { result ≡ look_eq (shown_in (option_map (λ looks. looks.now) before.entry) column) (record { character = byte; pen = pen }) }
 {
     let look = match before {
         Some(looks) => looks[column as usize],

@@ -2,6 +2,7 @@
 //! where that takes fewer bytes.
 ghost use Rattle.std.specs.Prelude.{ℕ, ◌≡◌, ◌-◌, ◌<◌, ◌≤◌, IfOk, OnOk, length, slice_index_or, true};
 ghost use Rattle.scr_cells.specs.CellViews.{blank_cell};
+ghost use Rattle.scr_cells.specs.Characters.{stand_in};
 ghost use Rattle.scr_plan.specs.Code.Drafts.{Covers, in_part};
 ghost use Rattle.scr_plan.specs.Code.Painters.{painter_look};
 ghost use Rattle.scr_plan.specs.Code.Scenes.{IsScene};
@@ -98,7 +99,7 @@ impl Draft {
         requires has { has scene.now.profile.now (Repeat byte (end - from.1)) ≡ true }
         requires spot { self.old.spot ≡ At from.0 from.1 }
         requires pen { (c : ℕ) → from.1 ≤ c → c < end → self.old.pen ≡ (painter_look scene.now.painter scene.now.picture.now (from.0, c)).pen }
-        requires byte { (c : ℕ) → from.1 ≤ c → c < end → byte ≡ (painter_look scene.now.painter scene.now.picture.now (from.0, c)).byte }
+        requires byte { (c : ℕ) → from.1 ≤ c → c < end → byte ≡ (painter_look scene.now.painter scene.now.picture.now (from.0, c)).character }
         ensures { OnOk result (Covers scene.now.profile.now scene.now.picture.now (in_part from.0 from.1 end) self.old self.new) }
     {
         run_laws();
@@ -121,7 +122,7 @@ fn same_end(cells: &[Cell], column: u32, end: u32) -> u32
     requires wide { end ≤ length cells.now }
     ensures more { column < result }
     ensures end { result ≤ end }
-    ensures same { (c : ℕ) → column ≤ c → c < result → (slice_index_or cells.now c blank_cell).byte ≡ (slice_index_or cells.now column blank_cell).byte }
+    ensures same { (c : ℕ) → column ≤ c → c < result → stand_in (slice_index_or cells.now c blank_cell).character ≡ stand_in (slice_index_or cells.now column blank_cell).character }
 {
     let byte = cell_in(cells, column).byte();
     for next in column + 1..end {

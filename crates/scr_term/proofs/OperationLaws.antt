@@ -131,7 +131,7 @@ put_leads rows columns byte old new (Margin r) e low high h = absurd (no_state h
     no_state : None ≡ Some new → ⊥
     no_state n = (cc)
 put_leads rows columns byte old new (At r c) e low high h =
-    let look : LookView = record { byte = byte; pen = old.pen } in
+    let look : LookView = record { character = byte; pen = old.pen } in
     let next : TerminalState = record { grid = grid_with old.grid r c look; spot = spot_after columns r c; pen = old.pen } in
     subst (λ s. Leads rows columns (negative_state old) (byte ∷ []) (negative_state s)) (same_some next new h)
     (unit_leads rows columns (negative_state old) (negative_state next) (Graphic byte) (low, high)

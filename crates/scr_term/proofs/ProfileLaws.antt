@@ -7,12 +7,13 @@ use Rattle.std.proofs.lemmas.Nat.Bits.{same_from_bits, bit_at_and, bit_at_or}
 use Rattle.std.proofs.lemmas.Bool.{eqb-true, false≢true}
 use Rattle.std.proofs.lemmas.Bool.Decides.{nat_tests}
 use Rattle.scr_cells.specs.Attributes.{all_attributes}
+use Rattle.scr_cells.specs.Characters.{CharacterLaws, IsAscii, stand_in}
 use Rattle.scr_cells.specs.declared.attributes.Attrs.{Attrs}
 use Rattle.scr_term.specs.declared.operations.operation.Op.TheVariants.{Move, Clear, Reset, Enter, Set, Fore, Back, Put}
 use Rattle.scr_term.specs.declared.operations.operation.Op.{Op}
 use Rattle.scr_term.specs.declared.operations.capability.Capability.TheVariants.{Sgr0, Setaf, Setab}
 use Rattle.scr_term.specs.Operations.Abilities.{AreAbilities}
-use Rattle.scr_term.specs.Operations.Laws.{ProfilesHave}
+use Rattle.scr_term.specs.Operations.Laws.{ProfilesHave, WritesStandIns}
 use Rattle.scr_term.specs.Operations.Profiles.{ProfileView, IsProfile, abilities, has_colours, is_shown, is_there, set_of, shown_set}
 use Rattle.scr_term.specs.Operations.Texts.{first_piece, has, is_attribute, is_sendable, is_within}
 use Rattle.scr_term.proofs.Attributes.{each_attribute}
@@ -154,12 +155,20 @@ colours_are_there profile h =
 pub abilities_are : (profile : ProfileView) → IsProfile profile → AreAbilities (abilities profile)
 abilities_are profile p = record { size = p.size; shown = shown_is_within profile }
 
-pub profiles_have_hold : ProfilesHave
-profiles_have_hold profile p = record {
+put_had : (profile : ProfileView) → IsProfile profile → (byte : ℕ) → IsAscii byte → has profile (Put byte) ≡ true
+put_had profile p byte is = can_be_had profile (Put byte) (and_true (nat_le 32 byte) (nat_le byte 126) (grind (arith, nat_tests, is)) (grind (arith, nat_tests, is))) refl
+
+stand_ins_had : CharacterLaws → (profile : ProfileView) → IsProfile profile → WritesStandIns profile
+unfolding WritesStandIns
+stand_ins_had characters profile p code is = put_had profile p (stand_in code) (characters.stand_in code is)
+
+pub profiles_have_hold : CharacterLaws → ProfilesHave
+profiles_have_hold characters profile p = record {
   can_show = abilities_are profile p;
   move = λ r c row_in column_in. can_be_had profile (Move r c) (and_true (nat_lt r profile.rows) (nat_lt c profile.columns) (grind (arith, nat_tests)) (grind (arith, nat_tests))) p.cup;
   clear = can_be_had profile Clear refl p.clear;
-  put = λ byte is. can_be_had profile (Put byte) (and_true (nat_le 32 byte) (nat_le byte 126) (grind (arith, nat_tests, is)) (grind (arith, nat_tests, is))) refl;
+  put = put_had profile p;
+  stand_ins = stand_ins_had characters profile p;
   reset = λ there. can_be_had profile Reset refl there;
   enter = λ a one shown.
       let is = shown_is_shown profile a one shown in

@@ -5,7 +5,7 @@ use Rattle.std.proofs.lemmas.List.Concat.{flat_map-append}
 use Rattle.std.proofs.lemmas.List.Elements.{All-from_recursion}
 use Rattle.std.proofs.lemmas.Bool.{eqb-true}
 use Rattle.std.proofs.lemmas.Bool.Decides.{nat_tests}
-use Rattle.scr_cells.specs.CellViews.{is_character}
+use Rattle.scr_cells.specs.Characters.{is_ascii}
 use Rattle.scr_cells.specs.Grids.{grid_at, grid_with, grid_with_run, is_in_run, places_left, places_right, rows_down, rows_up}
 use Rattle.scr_cells.specs.LookViews.{LookView, IsLook, blank}
 use Rattle.scr_cells.specs.PenViews.{PenView, is_plain_pen, plain_pen}
@@ -87,7 +87,7 @@ put_keeps : (a : Abilities) → AreAbilities a → (old : TerminalState) → IsS
     → Keeps a (written_at a.columns old byte spot)
 put_keeps a are old s byte (Margin r) inside low high = none_keeps a
 put_keeps a are old s byte (At r c) inside low high =
-    let look : LookView = record { byte = byte; pen = old.pen } in
+    let look : LookView = record { character = byte; pen = old.pen } in
     some_keeps a (record { grid = grid_with old.grid r c look; spot = spot_after a.columns r c; pen = old.pen }) (record {
       whole = put_is_grid a.rows a.columns old.grid r c look s.whole;
       looks = put_all a.rows a.columns old.grid r c look s.whole inside.0 (record { character = (low, high); pen = shown_is_pen a are.shown old.pen s.pen }) s.looks;
@@ -100,9 +100,9 @@ put_keeps a are old s byte (At r c) inside low high =
     next_spot false e = inside.0
 
 repeat_keeps : (a : Abilities) → AreAbilities a → (old : TerminalState) → IsState a old → (byte n r c : ℕ) → 32 ≤ byte → byte ≤ 126 → r < a.rows → c + n < a.columns
-    → IsState a (record old { grid = grid_with_run old.grid r c (replicate n (record { byte = byte; pen = old.pen })); spot = At r (c + n) })
+    → IsState a (record old { grid = grid_with_run old.grid r c (replicate n (record { character = byte; pen = old.pen })); spot = At r (c + n) })
 repeat_keeps a are old s byte n r c low high row_in fits =
-    let look : LookView = record { byte = byte; pen = old.pen } in
+    let look : LookView = record { character = byte; pen = old.pen } in
     let is : IsLook look = record { character = (low, high); pen = shown_is_pen a are.shown old.pen s.pen } in
     record {
       whole = run_is_grid a.rows a.columns old.grid r c n look s.whole row_in (omega (arith, fits));
@@ -199,7 +199,7 @@ keeps profile p old s (Put byte) had =
     let high : byte ≤ 126 = grind (arith, nat_tests, within) in
     put_keeps (abilities profile) (abilities_are profile p) old s byte old.spot s.spot low high
 keeps profile p old s (Repeat byte n) had =
-    let is : is_character byte ≡ true = (both_true (is_character byte) (is_repetition n) (is_had profile (Repeat byte n) had).0).0 in
+    let is : is_ascii byte ≡ true = (both_true (is_ascii byte) (is_repetition n) (is_had profile (Repeat byte n) had).0).0 in
     let low : 32 ≤ byte = grind (arith, nat_tests, is) in
     let high : byte ≤ 126 = grind (arith, nat_tests, is) in
     place_keeps (abilities profile) old.spot _ s.spot (λ r c row_in column_in. tested_keeps (abilities profile) (nat_lt (c + n) profile.columns) _

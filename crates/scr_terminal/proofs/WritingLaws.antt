@@ -4,7 +4,7 @@ use Rattle.std.specs.List.{list_all}
 use Rattle.std.proofs.lemmas.Bool.Decides.{nat_tests}
 use Rattle.std.proofs.lemmas.List.{append-nil, append_assoc, drop-set-lt, get_or-set_same, length-replicate, length-take, set-get_or, set-set, take-append-drop, take-take, take_more_set}
 use Rattle.std.proofs.lemmas.List.Elements.{All-append, All-cons, All-drop, All-get_or, All-nil, All-set, All-take}
-use Rattle.scr_cells.specs.CellViews.{is_character}
+use Rattle.scr_cells.specs.Characters.{is_ascii}
 use Rattle.scr_cells.specs.Grids.{GridView, GridLaws, IsGrid, grid_row, grid_with, grid_with_run, line_with_run}
 use Rattle.scr_cells.specs.LookViews.{LookView, IsLook, blank}
 use Rattle.scr_cells.specs.MadeRuns.{before, made_while}
@@ -40,10 +40,10 @@ made_fits pen n ops =
     each (x ∷ xs) = by (look_of pen x) (made_while (look_of pen) xs) (length xs) (each xs)
 
 look_is : (pen : PenView) (op : Op) (look : LookView) → IsPen pen → look_of pen op ≡ Some look → IsLook look
-look_is pen (Put byte) look is made = by (is_character byte) refl made
+look_is pen (Put byte) look is made = by (is_ascii byte) refl made
   where
-    by : (t : Bool) → is_character byte ≡ t → cond t (Some (record { byte = byte; pen = pen })) None ≡ Some look → IsLook look
-    by true e made = let same : record { byte = byte; pen = pen } ≡ look = cc in subst IsLook same (record { character = (grind (arith, nat_tests, e), grind (arith, nat_tests, e)); pen = is })
+    by : (t : Bool) → is_ascii byte ≡ t → cond t (Some (record { character = byte; pen = pen })) None ≡ Some look → IsLook look
+    by true e made = let same : record { character = byte; pen = pen } ≡ look = cc in subst IsLook same (record { character = (grind (arith, nat_tests, e), grind (arith, nat_tests, e)); pen = is })
     by false e made = (cc)
 look_is pen op look is made = (cc)
 
@@ -113,8 +113,8 @@ run_after lines r c look run row_in column_in =
     ∙ set-set lines r put (line_with_run put (c + 1) run)
     ∙ ap (set lines r) joined
 
-put_is_made : (profile : ProfileView) (state : TerminalState) (byte r c : ℕ) → is_character byte ≡ true → state.spot ≡ At r c
-    → step profile state (Put byte) ≡ Some (record state { grid = grid_with state.grid r c (record { byte = byte; pen = state.pen }); spot = spot_after profile.columns r (c + 1) })
+put_is_made : (profile : ProfileView) (state : TerminalState) (byte r c : ℕ) → is_ascii byte ≡ true → state.spot ≡ At r c
+    → step profile state (Put byte) ≡ Some (record state { grid = grid_with state.grid r c (record { character = byte; pen = state.pen }); spot = spot_after profile.columns r (c + 1) })
 unfolding has
 put_is_made profile state byte r c is at = ap (λ t. cond (t && true) (written_at profile.columns state byte state.spot) None) is ∙ ap (written_at profile.columns state byte) at
 
@@ -124,12 +124,12 @@ nothing_written columns state r c at =
     λ i. record state { grid = sym (no_run state.grid r c) i; spot = (at ∙ ap (spot_after columns r) none) i }
 
 -- an operation writes a character, or nothing is made of it
-kinds : (pen : PenView) (op : Op) → ((is_character_op op ≡ false) × (look_of pen op ≡ None)) ⊎ ((byte : ℕ) × (op ≡ Put byte) × (is_character byte ≡ true))
-kinds pen (Put byte) = by (is_character byte) refl
+kinds : (pen : PenView) (op : Op) → ((is_character_op op ≡ false) × (look_of pen op ≡ None)) ⊎ ((byte : ℕ) × (op ≡ Put byte) × (is_ascii byte ≡ true))
+kinds pen (Put byte) = by (is_ascii byte) refl
   where
-    by : (t : Bool) → is_character byte ≡ t → ((is_character byte ≡ false) × (look_of pen (Put byte) ≡ None)) ⊎ ((b : ℕ) × (Put byte ≡ Put b) × (is_character b ≡ true))
+    by : (t : Bool) → is_ascii byte ≡ t → ((is_ascii byte ≡ false) × (look_of pen (Put byte) ≡ None)) ⊎ ((b : ℕ) × (Put byte ≡ Put b) × (is_ascii b ≡ true))
     by true e = inr (byte, refl, e)
-    by false e = inl (e, ap (λ t. cond {A = Option LookView} t (Some (record { byte = byte; pen = pen })) None) e)
+    by false e = inl (e, ap (λ t. cond {A = Option LookView} t (Some (record { character = byte; pen = pen })) None) e)
 kinds pen op = inl (refl, refl)
 
 -- what steps one after another lead to
@@ -137,12 +137,12 @@ abbrev Leads : ProfileView → TerminalState → ℕ → ℕ → List Op → Typ
 Leads profile state r c ops = runs profile state (take (characters_first ops) ops) ≡ Some (looks_written profile.columns state (made_while (look_of state.pen) ops) (At r c))
 
 one_and_more : LookGridLaws → (profile : ProfileView) (rows : ℕ) (state : TerminalState) (r c byte : ℕ) (ops : List Op) → IsGrid rows profile.columns state.grid → r < rows → c < profile.columns
-    → state.spot ≡ spot_after profile.columns r c → is_character byte ≡ true
+    → state.spot ≡ spot_after profile.columns r c → is_ascii byte ≡ true
     → ((next : TerminalState) → IsGrid rows profile.columns next.grid → next.spot ≡ spot_after profile.columns r (c + 1) → Leads profile next r (c + 1) ops)
     → Leads profile state r c (Put byte ∷ ops)
 one_and_more looks profile rows state r c byte ops is row_in column_in at one more =
     let n : ℕ = characters_first ops in
-    let look : LookView = record { byte = byte; pen = state.pen } in
+    let look : LookView = record { character = byte; pen = state.pen } in
     let run : List LookView = made_while (look_of state.pen) ops in
     let next : TerminalState = record state { grid = grid_with state.grid r c look; spot = spot_after profile.columns r (c + 1) } in
     let there : nat_lt c profile.columns ≡ true = grind (arith, nat_tests) in
@@ -176,7 +176,7 @@ made_length pen [] = refl
 made_length pen (op ∷ ops) = elim (kinds pen op) [
   | inl other ↦ ap (λ o. length (before o (made_while (look_of pen) ops))) other.1 ∙ sym (ap (λ t. cond t (suc (characters_first ops)) 0) other.0)
   | inr put ↦ ap (λ o. length (made_while (look_of pen) (o ∷ ops))) put.1
-      ∙ ap (λ t. length (before (cond {A = Option LookView} t (Some (record { byte = put.0; pen = pen })) None) (made_while (look_of pen) ops))) put.2
+      ∙ ap (λ t. length (before (cond {A = Option LookView} t (Some (record { character = put.0; pen = pen })) None) (made_while (look_of pen) ops))) put.2
       ∙ ap suc (made_length pen ops)
       ∙ sym (ap (λ o. characters_first (o ∷ ops)) put.1 ∙ ap (λ t. cond t (suc (characters_first ops)) 0) put.2)
 ]
@@ -261,15 +261,15 @@ gone_ahead looks profile display view new ops n same is wide many made =
 
 -- ---- a character that is repeated
 
-many_first : (byte : ℕ) → is_character byte ≡ true → (n : ℕ) → characters_first (replicate n (Put byte)) ≡ n
+many_first : (byte : ℕ) → is_ascii byte ≡ true → (n : ℕ) → characters_first (replicate n (Put byte)) ≡ n
 many_first byte is zero = refl
 many_first byte is (suc n) = ap (λ t. cond t (suc (characters_first (replicate n (Put byte)))) 0) is ∙ ap suc (many_first byte is n)
 
-many_made : (pen : PenView) (byte : ℕ) → is_character byte ≡ true → (n : ℕ) → made_while (look_of pen) (replicate n (Put byte)) ≡ replicate n (record { byte = byte; pen = pen })
+many_made : (pen : PenView) (byte : ℕ) → is_ascii byte ≡ true → (n : ℕ) → made_while (look_of pen) (replicate n (Put byte)) ≡ replicate n (record { character = byte; pen = pen })
 many_made pen byte is zero = refl
 many_made pen byte is (suc n) =
-    ap (λ t. before (cond {A = Option LookView} t (Some (record { byte = byte; pen = pen })) None) (made_while (look_of pen) (replicate n (Put byte)))) is
-    ∙ ap (λ looks. record { byte = byte; pen = pen } ∷ looks) (many_made pen byte is n)
+    ap (λ t. before (cond {A = Option LookView} t (Some (record { character = byte; pen = pen })) None) (made_while (look_of pen) (replicate n (Put byte)))) is
+    ∙ ap (λ looks. record { character = byte; pen = pen } ∷ looks) (many_made pen byte is n)
 
 pub many_looks : (n : ℕ) (look : LookView) → IsLook look → All IsLook (replicate n look)
 many_looks zero look is = All-nil IsLook
@@ -287,13 +287,13 @@ both_first false b h = (cc)
 no_state : (new : TerminalState) → None ≡ Some new → ⊥
 no_state new h = (cc)
 
-repeated_at : LookGridLaws → (profile : ProfileView) (rows : ℕ) (old new : TerminalState) (byte n : ℕ) → is_character byte ≡ true → IsGrid rows profile.columns old.grid
+repeated_at : LookGridLaws → (profile : ProfileView) (rows : ℕ) (old new : TerminalState) (byte n : ℕ) → is_ascii byte ≡ true → IsGrid rows profile.columns old.grid
     → (spot : Spot) → old.spot ≡ spot → IsSpot rows profile.columns spot
-    → from_place spot (λ r c. cond (nat_lt (c + n) profile.columns) (Some (record old { grid = grid_with_run old.grid r c (replicate n (record { byte = byte; pen = old.pen })); spot = At r (c + n) })) None) ≡ Some new
+    → from_place spot (λ r c. cond (nat_lt (c + n) profile.columns) (Some (record old { grid = grid_with_run old.grid r c (replicate n (record { character = byte; pen = old.pen })); spot = At r (c + n) })) None) ≡ Some new
     → runs profile old (replicate n (Put byte)) ≡ Some new
 repeated_at looks profile rows old new byte n one is (Margin r) at inside h = absurd (no_state new h)
 repeated_at looks profile rows old new byte n one is (At r c) at inside h =
-    let look : LookView = record { byte = byte; pen = old.pen } in
+    let look : LookView = record { character = byte; pen = old.pen } in
     let ops = replicate n (Put byte) in
     let there : nat_lt c profile.columns ≡ true = grind (arith, nat_tests, inside.1) in
     let here : old.spot ≡ spot_after profile.columns r c = at ∙ sym (ap (λ t. cond t (At r c) (Margin r)) there) in
@@ -317,5 +317,5 @@ pub repeats_are_characters : LookGridLaws → RepeatsAreCharacters
 unfolding has
 repeats_are_characters looks profile old new s byte n h =
     let got = chosen (has profile (Repeat byte n)) (act profile old (Repeat byte n)) new h in
-    let one : is_character byte ≡ true = both_first _ _ (both_first _ _ got.0) in
+    let one : is_ascii byte ≡ true = both_first _ _ (both_first _ _ got.0) in
     repeated_at looks profile profile.rows old new byte n one s.whole old.spot refl s.spot got.1

@@ -1,7 +1,7 @@
 -- The characters at the front of a list of operations, as far as the row has room; and characters that are repeated.
 -- terminfo(5), 'Basic Capabilities' and 'Miscellaneous'.
 use Rattle.std.specs.Prelude.{ℕ, suc, ◌≡◌, ◌-◌, Bool, false, List, [], ◌∷◌, Some, replicate, take, if◌then◌else◌}
-use Rattle.scr_cells.specs.CellViews.{is_character}
+use Rattle.scr_cells.specs.Characters.{is_ascii}
 use Rattle.scr_term.specs.Operations.Profiles.{ProfileView, abilities}
 use Rattle.scr_term.specs.Operations.States.{TerminalState, IsState}
 use Rattle.scr_term.specs.Operations.Steps.{runs, step}
@@ -12,7 +12,7 @@ use Rattle.scr_term.specs.declared.operations.operation.Spot.TheVariants.{At, Ma
 
 -- The operation writes a character.
 abbrev pub is_character_op : Op → Bool
-is_character_op (Put byte) = is_character byte
+is_character_op (Put byte) = is_ascii byte
 is_character_op op = false
 
 -- The number of characters that operations begin with.

@@ -13,17 +13,17 @@ use Rattle.scr_virtual.proofs.RangeLaws.{Range, same_or_not}
 -- ---- cells
 
 pub same_cell : (a b : CellView) → a ≡ b → cell_eq a b ≡ true
-same_cell a b e = ap (λ c. cell_eq a c) (sym e) ∙ alike a.byte a.attrs a.pair
+same_cell a b e = ap (λ c. cell_eq a c) (sym e) ∙ alike a.character a.attrs a.pair
   where
     alike : (x y z : ℕ) → (x == x && y == y && z == z) ≡ true
     alike x y z = grind (arith, nat_tests)
 
 pub one_cell : (a b : CellView) → cell_eq a b ≡ true → a ≡ b
 one_cell a b e =
-    let bytes : a.byte ≡ b.byte = first a.byte b.byte a.attrs b.attrs a.pair b.pair e in
-    let attrs : a.attrs ≡ b.attrs = second a.byte b.byte a.attrs b.attrs a.pair b.pair e in
-    let pairs : a.pair ≡ b.pair = third a.byte b.byte a.attrs b.attrs a.pair b.pair e in
-    λ i. record { byte = bytes i; attrs = attrs i; pair = pairs i }
+    let characters : a.character ≡ b.character = first a.character b.character a.attrs b.attrs a.pair b.pair e in
+    let attrs : a.attrs ≡ b.attrs = second a.character b.character a.attrs b.attrs a.pair b.pair e in
+    let pairs : a.pair ≡ b.pair = third a.character b.character a.attrs b.attrs a.pair b.pair e in
+    λ i. record { character = characters i; attrs = attrs i; pair = pairs i }
   where
     first : (x y u v s t : ℕ) → (x == y && u == v && s == t) ≡ true → x ≡ y
     first x y u v s t e = grind (arith, nat_tests)

@@ -27,7 +27,7 @@ part_cell part cells r c = cells (part.row + (r - part.top)) (part.column + (c -
 
 -- Two cells are the same.
 abbrev pub cell_eq : CellView → CellView → Bool
-cell_eq a b = a.byte == b.byte && a.attrs == b.attrs && a.pair == b.pair
+cell_eq a b = a.character == b.character && a.attrs == b.attrs && a.pair == b.pair
 
 -- The columns, of n from `from` on, in which two rows of cells differ.
 abbrev pub columns_unlike : (ℕ → CellView) → (ℕ → CellView) → (from n : ℕ) → List ℕ

@@ -5,7 +5,8 @@ use Rattle.std.specs.List.{range_with_len}
 use Rattle.std.proofs.lemmas.Bool.Decides.{nat_tests}
 use Rattle.std.proofs.lemmas.List.{drop-drop, get_or-drop, get_or-set_same, get_or-take, length-drop, length-set, length-take, length-take-le, set-set, take-append-drop, take-take, take_all}
 use Rattle.std.proofs.lemmas.List.FromFn.{get_or-map-range_with_len, length-map-range_with_len}
-use Rattle.scr_cells.specs.CellViews.{CellView, blank_cell, is_character}
+use Rattle.scr_cells.specs.CellViews.{CellView, blank_cell}
+use Rattle.scr_cells.specs.Characters.{is_ascii}
 use Rattle.scr_cells.specs.Grids.{GridLaws, GridView, grid_with_run}
 use Rattle.scr_cells.specs.MadeRuns.{before, made_while}
 use Rattle.scr_windows.specs.declared.faults.Added.{Added}
@@ -32,7 +33,7 @@ use Rattle.scr_windows.proofs.SheetLaws.{put_there}
 
 pub first_fits : (text : List ℕ) → characters_first text ≤ length text
 first_fits [] = omega arith
-first_fits (byte ∷ text) = by (is_character byte) (first_fits text)
+first_fits (byte ∷ text) = by (is_ascii byte) (first_fits text)
   where
     by : (t : Bool) → characters_first text ≤ length text → cond t (suc (characters_first text)) 0 ≤ suc (length text)
     by true h = omega (arith, h)
@@ -40,7 +41,7 @@ first_fits (byte ∷ text) = by (is_character byte) (first_fits text)
 
 made_are : (blank : CellView) (text : List ℕ) → length (made_while (form_of blank) text) ≡ characters_first text
 made_are blank [] = refl
-made_are blank (byte ∷ text) = by (is_character byte) (made_are blank text)
+made_are blank (byte ∷ text) = by (is_ascii byte) (made_are blank text)
   where
     by : (t : Bool) → length (made_while (form_of blank) text) ≡ characters_first text
         → length (before (cond t (Some (cell_beside blank byte)) None) (made_while (form_of blank) text)) ≡ cond t (suc (characters_first text)) 0
@@ -50,7 +51,7 @@ made_are blank (byte ∷ text) = by (is_character byte) (made_are blank text)
 made_at : (blank : CellView) (text : List ℕ) (k : ℕ) → k < length (made_while (form_of blank) text)
     → get_or (made_while (form_of blank) text) k blank_cell ≡ cell_beside blank (get_or text k 0)
 made_at blank [] k h = absurd (omega (arith, h))
-made_at blank (byte ∷ text) k h = by (is_character byte) k h (λ n. made_at blank text n)
+made_at blank (byte ∷ text) k h = by (is_ascii byte) k h (λ n. made_at blank text n)
   where
     run : List CellView
     run = made_while (form_of blank) text
@@ -258,7 +259,7 @@ character_put d i byte w here is =
         let put : DeskView = write d i y (y + 1) f in
         character_is d i byte ∙ ap (λ t. cond t (gone_to put i (y, x + 1)) (line_begun put i)) (below_is (x + 1) w.frame.area.columns room) ∙ (λ j. (written_desk d i (x + 1) f here j, Done))
 
-byte_is_character : (d : DeskView) (i byte : ℕ) → is_character byte ≡ true → byte_added d i byte no_attributes ≡ character_added d i byte no_attributes
+byte_is_character : (d : DeskView) (i byte : ℕ) → is_ascii byte ≡ true → byte_added d i byte no_attributes ≡ character_added d i byte no_attributes
 unfolding byte_added
 byte_is_character d i byte is = last _ _ _ _ _ _
   where
@@ -266,7 +267,7 @@ byte_is_character d i byte is = last _ _ _ _ _ _
     last a b c e f g = grind (arith, nat_tests, is)
 
 -- what the first character of a stretch, and each further one, leaves
-first_laid : SurfaceLaws → (d : DeskView) (i byte : ℕ) (value : ℕ → CellView) → i < length d.windows → is_character byte ≡ true → (window_at d i).state.cursor.1 + 1 < (window_at d i).frame.area.columns
+first_laid : SurfaceLaws → (d : DeskView) (i byte : ℕ) (value : ℕ → CellView) → i < length d.windows → is_ascii byte ≡ true → (window_at d i).state.cursor.1 + 1 < (window_at d i).frame.area.columns
     → value (window_at d i).state.cursor.1 ≡ written_form byte no_attributes (window_at d i).state
     → ◌≡◌ {A = DeskView × Added} (byte_added d i byte no_attributes) (laid_desk d i ((window_at d i).state.cursor.1 + 1) value, Done)
 first_laid laws d i byte value here is room cell =
@@ -282,7 +283,7 @@ first_laid laws d i byte value here is room cell =
     alike : (y x r c : ℕ) (cell was : CellView) → value x ≡ cell → cond (r == y && leb x c && ltb c (x + 1)) cell was ≡ cond (r == y && leb x c && ltb c (x + 1)) (value c) was
     alike y x r c cell was e = grind (arith, nat_tests)
 
-next_laid : SurfaceLaws → (d : DeskView) (i byte end : ℕ) (value : ℕ → CellView) → IsThere d i → is_character byte ≡ true → (window_at d i).state.cursor.1 ≤ end → end + 1 < (window_at d i).frame.area.columns
+next_laid : SurfaceLaws → (d : DeskView) (i byte end : ℕ) (value : ℕ → CellView) → IsThere d i → is_ascii byte ≡ true → (window_at d i).state.cursor.1 ≤ end → end + 1 < (window_at d i).frame.area.columns
     → value end ≡ written_form byte no_attributes (window_at d i).state
     → ◌≡◌ {A = DeskView × Added} (byte_added (laid_desk d i end value) i byte no_attributes) (laid_desk d i (end + 1) value, Done)
 next_laid laws d i byte end value h is from room cell =
@@ -312,9 +313,9 @@ rest_laid : SurfaceLaws → (text : List ℕ) (d : DeskView) (i end : ℕ) (valu
     → ◌≡◌ {A = DeskView × Added} (text_added (laid_desk d i end value) i (take (characters_first text) text)) (laid_desk d i (end + characters_first text) value, Done)
 rest_laid laws [] d i end value h from room cells = let z : end ≡ end + 0 = omega arith in (λ j. (laid_desk d i (z j) value, Done))
 rest_laid laws (byte ∷ text) d i end value h from room cells =
-    by (is_character byte) refl (rest_laid laws text d i (end + 1) value h (omega arith) (omega arith) (λ k. let e : end + 1 + k ≡ end + suc k = omega arith in ap value e ∙ cells (suc k)))
+    by (is_ascii byte) refl (rest_laid laws text d i (end + 1) value h (omega arith) (omega arith) (λ k. let e : end + 1 + k ≡ end + suc k = omega arith in ap value e ∙ cells (suc k)))
   where
-    by : (t : Bool) → is_character byte ≡ t
+    by : (t : Bool) → is_ascii byte ≡ t
         → ◌≡◌ {A = DeskView × Added} (text_added (laid_desk d i (end + 1) value) i (take (characters_first text) text)) (laid_desk d i (end + 1 + characters_first text) value, Done)
         → ◌≡◌ {A = DeskView × Added} (text_added (laid_desk d i end value) i (take (cond t (suc (characters_first text)) 0) (byte ∷ text))) (laid_desk d i (end + cond t (suc (characters_first text)) 0) value, Done)
     by false is rest = let z : end ≡ end + 0 = omega arith in (λ j. (laid_desk d i (z j) value, Done))
@@ -330,9 +331,9 @@ stretch_laid : SurfaceLaws → (text : List ℕ) (d : DeskView) (i : ℕ) (value
     → ((k : ℕ) → value ((window_at d i).state.cursor.1 + k) ≡ written_form (get_or text k 0) no_attributes (window_at d i).state)
     → ◌≡◌ {A = DeskView × Added} (text_added d i (take (characters_first text) text)) (laid_desk d i ((window_at d i).state.cursor.1 + characters_first text) value, Done)
 stretch_laid laws [] d i value h some room cells = absurd (omega (arith, some))
-stretch_laid laws (byte ∷ text) d i value h some room cells = by (is_character byte) refl some
+stretch_laid laws (byte ∷ text) d i value h some room cells = by (is_ascii byte) refl some
   where
-    by : (t : Bool) → is_character byte ≡ t → 1 ≤ cond t (suc (characters_first text)) 0
+    by : (t : Bool) → is_ascii byte ≡ t → 1 ≤ cond t (suc (characters_first text)) 0
         → ◌≡◌ {A = DeskView × Added} (text_added d i (take (cond t (suc (characters_first text)) 0) (byte ∷ text))) (laid_desk d i ((window_at d i).state.cursor.1 + cond t (suc (characters_first text)) 0) value, Done)
     by false is some = absurd (omega (arith, some))
     by true is some =
@@ -348,7 +349,7 @@ stretch_laid laws (byte ∷ text) d i value h some room cells = by (is_character
 beside_is_written : (state : WindowState) (byte : ℕ) → cell_beside (written_form 32 no_attributes state) byte ≡ written_form byte no_attributes state
 beside_is_written state byte = by (byte == 32)
   where
-    by : (t : Bool) → cond t (written_form 32 no_attributes state) (record (written_form 32 no_attributes state) { byte = byte }) ≡ record (written_form 32 no_attributes state) { byte = cond t state.background.byte byte }
+    by : (t : Bool) → cond t (written_form 32 no_attributes state) (record (written_form 32 no_attributes state) { character = byte }) ≡ record (written_form 32 no_attributes state) { character = cond t state.background.character byte }
     by true = refl
     by false = refl
 
@@ -376,17 +377,17 @@ stretch_added laws d put new i count text blank state h is some room blank_is co
 
 -- ---- a part of a text
 
-begins : (text : List ℕ) → 1 ≤ length text → is_character (get_or text 0 0) ≡ true → 1 ≤ characters_first text
+begins : (text : List ℕ) → 1 ≤ length text → is_ascii (get_or text 0 0) ≡ true → 1 ≤ characters_first text
 begins [] some is = absurd (omega (arith, some))
-begins (byte ∷ text) some is = let e : cond (is_character byte) (suc (characters_first text)) 0 ≡ suc (characters_first text) = ap (λ t. cond t (suc (characters_first text)) 0) is in omega (arith, e)
+begins (byte ∷ text) some is = let e : cond (is_ascii byte) (suc (characters_first text)) 0 ≡ suc (characters_first text) = ap (λ t. cond t (suc (characters_first text)) 0) is in omega (arith, e)
 
-pub part_begins : (text : List ℕ) (at n : ℕ) → 1 ≤ n → at + n ≤ length text → is_character (get_or text at 0) ≡ true → 1 ≤ characters_first (take n (drop at text))
+pub part_begins : (text : List ℕ) (at n : ℕ) → 1 ≤ n → at + n ≤ length text → is_ascii (get_or text at 0) ≡ true → 1 ≤ characters_first (take n (drop at text))
 part_begins text at n some fits is =
     let rest : length (drop at text) ≡ length text - at = length-drop at text in
     let long : length (take n (drop at text)) ≡ n = length-take-le n (drop at text) (omega arith) in
     let z : at + 0 ≡ at = omega arith in
     let first : get_or (take n (drop at text)) 0 0 ≡ get_or text at 0 = get_or-take n (drop at text) 0 0 some ∙ get_or-drop at text 0 0 ∙ ap (λ k. get_or text k 0) z in
-    begins (take n (drop at text)) (omega arith) (ap is_character first ∙ is)
+    begins (take n (drop at text)) (omega arith) (ap is_ascii first ∙ is)
 
 -- the characters that a part begins with are in the text
 pub part_fits : (text : List ℕ) (at n count : ℕ) → at + n ≤ length text → count ≡ characters_first (take n (drop at text)) → (count ≤ n) × (take count (take n (drop at text)) ≡ take count (drop at text))

@@ -55,7 +55,7 @@ setting text = if bytes_eq text (codes "0") then Some false else (if bytes_eq te
 -- a cell: a character, 33 to 126, and the number of an attribute set
 abbrev pub cell_of : List ℕ → ℕ → Option CellView
 cell_of (byte ∷ []) attrs =
-    if nat_le 33 byte && nat_le byte 126 && nat_le attrs 127 then Some (record { byte = byte; attrs = attrs; pair = 0 }) else None
+    if nat_le 33 byte && nat_le byte 126 && nat_le attrs 127 then Some (record { character = byte; attrs = attrs; pair = 0 }) else None
 cell_of text attrs = None
 
 unfoldable pub background : List ℕ → Option CellView

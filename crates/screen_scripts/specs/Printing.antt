@@ -34,7 +34,7 @@ attribute_digits look = hexadecimal_digit (look.pen.attrs / 16) ∷ hexadecimal_
 
 -- The characters of a row between two bars.
 abbrev pub character_line : List LookView → List ℕ
-character_line looks = 124 ∷ map (λ look. look.byte) looks ++ 124 ∷ 10 ∷ []
+character_line looks = 124 ∷ map (λ look. look.character) looks ++ 124 ∷ 10 ∷ []
 
 -- The attributes of a row between two colons; nothing if the row has none.
 abbrev pub attribute_line : List LookView → List ℕ

@@ -10,13 +10,13 @@ use crate::answers::{Reply, added, done, refused};
 use crate::faults::{BAD_PAIR, CLOSED, NOT_ASCII};
 use crate::handles::Handle;
 use curses::{Attrs, Cell, Win};
-use scr_cells::is_character;
+use scr_cells::is_ascii;
 
 // The cell of a byte, attributes and a pair, or the number of the fault that there is none.
 fn cell_of(byte: u8, attrs: u8, pair: u32) -> Result<Cell, u32>
     ensures { result ≡ cell_given byte attrs pair }
 {
-    if !is_character(byte) {
+    if !is_ascii(byte) {
         return Err(NOT_ASCII);
     }
     match Cell::paired(byte, Attrs(attrs), pair) {

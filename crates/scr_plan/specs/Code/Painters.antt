@@ -54,7 +54,7 @@ painter_sees painter pairs cell = seen painter.shown.0 painter.colours pairs cel
 -- one place with a cell of these pairs' colours, and with the cell that the picture has there
 abbrev pub painter_paints : Painter → List (Option ℕ × Option ℕ) → ℕ × ℕ → CellView → List Op
 painter_paints painter pairs place cell =
-    painter_goes painter place ++ renders (painter_sees painter pairs cell).pen ++ Put (painter_sees painter pairs cell).byte ∷ []
+    painter_goes painter place ++ renders (painter_sees painter pairs cell).pen ++ Put (painter_sees painter pairs cell).character ∷ []
 
 abbrev pub painter_paints_place : Painter → PictureView → ℕ × ℕ → List Op
 painter_paints_place painter picture place = painter_paints painter picture.pairs place (grid_at blank_cell picture.lines place.0 place.1)
@@ -95,7 +95,7 @@ is_that_pen (Some left) pen = pen_eq left pen
 -- a character in a place, and what leads there with its pen, unless the place before it was painted with that pen
 abbrev pub painter_writes : Painter → Option PenView → ℕ × ℕ → LookView → List Op
 painter_writes painter left place look =
-    (if is_that_pen left look.pen then [] else painter_goes painter place ++ renders look.pen) ++ Put look.byte ∷ []
+    (if is_that_pen left look.pen then [] else painter_goes painter place ++ renders look.pen) ++ Put look.character ∷ []
 
 abbrev pub row_paints : Painter → PictureView → Option (List LookView) → ℕ × ℕ → List Op
 row_paints painter picture before place = painter_writes painter (pen_before painter picture before place.0 place.1) place (painter_look painter picture place)

@@ -3,7 +3,7 @@
 use Rattle.std.specs.Prelude.{ℕ, ◌≡◌, ◌≢◌, ◌≤◌, ◌==◌, ◌||◌, Bool, IsTrue, List, [], ◌∷◌, ◌++◌, length, ◌⊎◌}
 use Rattle.std.specs.List.{AllByRecursion, flat_map}
 use Rattle.std.specs.Char.{is_ascii_digit}
-use Rattle.scr_cells.specs.CellViews.{IsCharacter}
+use Rattle.scr_cells.specs.Characters.{IsAscii}
 
 -- A unit: a character; a control function of one byte; or a control sequence with its parameter bytes and final byte.
 pub data EcmaUnit : Type 0 where
@@ -30,7 +30,7 @@ pub record IsSequence (parameters : List ℕ) (final : ℕ) : Type 0 where
 
 -- A character, backspace or carriage return, or a control sequence.
 abbrev pub IsUnit : EcmaUnit → Type 0
-IsUnit (Graphic byte) = IsCharacter byte
+IsUnit (Graphic byte) = IsAscii byte
 IsUnit (Control byte) = (byte ≡ 8) ⊎ (byte ≡ 13)
 IsUnit (Sequence parameters final) = IsSequence parameters final
 

@@ -1,7 +1,7 @@
 -- The laws of operations, of runs and of their bytes.
 use Rattle.std.specs.Prelude.{ℕ, ◌≡◌, ◌++◌, ◌<◌, Bool, true, false, List, All, Some, option_and_then, bit_and}
 use Rattle.scr_cells.specs.Attributes.{every_attribute}
-use Rattle.scr_cells.specs.CellViews.{IsCharacter}
+use Rattle.scr_cells.specs.Characters.{IsAscii, IsCharacter, stand_in}
 use Rattle.scr_cells.specs.Grids.{IsGrid, grid_at, grid_filled, grid_of, grid_with, places_left, places_right, rows_down, rows_up}
 use Rattle.scr_cells.specs.LookViews.{IsLook, LookView, blank, blank_grid}
 use Rattle.scr_cells.specs.PenViews.{IsPen, PenView, plain_pen, with_attribute}
@@ -56,13 +56,19 @@ pub record BlankLaws : Type 0 where
   pub state : (profile : ProfileView) → IsProfile profile → IsState (abilities profile) (blank_state profile.rows profile.columns)
   pub negative : (rows columns : ℕ) → negative_state (blank_state rows columns) ≡ blank_state rows columns
 
--- What can be relied on: a profile can move the cursor everywhere, clear the screen and write each character. It can
--- turn on each attribute and set each colour that it shows, and reset them; without `sgr0` it shows none.
+-- A profile can write what stands in for each character.
+unfoldable pub WritesStandIns : ProfileView → Type 0
+WritesStandIns profile = (code : ℕ) → IsCharacter code → has profile (Put (stand_in code)) ≡ true
+
+-- What can be relied on: a profile can move the cursor everywhere, clear the screen and write each character of ASCII,
+-- and what stands in for another. It can turn on each attribute and set each colour that it shows, and reset them;
+-- without `sgr0` it shows none.
 pub record HasLaws (profile : ProfileView) : Type 0 where
   pub can_show : AreAbilities (abilities profile)
   pub move : (r c : ℕ) → r < profile.rows → c < profile.columns → has profile (Move r c) ≡ true
   pub clear : has profile Clear ≡ true
-  pub put : (byte : ℕ) → IsCharacter byte → has profile (Put byte) ≡ true
+  pub put : (byte : ℕ) → IsAscii byte → has profile (Put byte) ≡ true
+  pub stand_ins : WritesStandIns profile
   pub reset : is_there profile Sgr0 ≡ true → has profile Reset ≡ true
   pub enter : (a : ℕ) → is_attribute a ≡ true → bit_and (shown_set profile) a ≡ a → has profile (Enter (record { 0 = a })) ≡ true
   pub fore : (n : ℕ) → n < 8 → has_colours profile ≡ true → has profile (Fore n) ≡ true

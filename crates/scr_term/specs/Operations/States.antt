@@ -52,7 +52,7 @@ spot_after columns r c = if nat_lt (c + 1) columns then At r (c + 1) else Margin
 -- Writes a character at this position, with the pen; undefined at the margin.
 abbrev pub written_at : ℕ → TerminalState → ℕ → Spot → Option TerminalState
 written_at columns state byte (At r c) = Some (record state {
-  grid = grid_with state.grid r c (record { byte = byte; pen = state.pen });
+  grid = grid_with state.grid r c (record { character = byte; pen = state.pen });
   spot = spot_after columns r c;
 })
 written_at columns state byte (Margin r) = None
@@ -153,6 +153,6 @@ scrolled_down rows columns state n =
 abbrev pub character_repeated : ℕ → TerminalState → ℕ → ℕ → Option TerminalState
 character_repeated columns state byte n =
     from_place state.spot (λ r c. if nat_lt (c + n) columns then Some (record state {
-      grid = grid_with_run state.grid r c (replicate n (record { byte = byte; pen = state.pen }));
+      grid = grid_with_run state.grid r c (replicate n (record { character = byte; pen = state.pen }));
       spot = At r (c + n);
     }) else None)

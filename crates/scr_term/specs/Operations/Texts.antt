@@ -3,7 +3,7 @@
 use Rattle.std.specs.Prelude.{ℕ, ◌==◌, ◌&&◌, Bool, true, false, nat_lt, nat_le, ℤ, pos, List, [], ◌∷◌, ◌++◌, map, take, replicate, Option, Some, None, bit_and, if◌then◌else◌}
 use Rattle.std.specs.List.{flat_map, list_any}
 use Rattle.scr_cells.specs.Attributes.{all_attributes, standout, underline, reverse, blink, dim, bold, invis}
-use Rattle.scr_cells.specs.CellViews.{is_character}
+use Rattle.scr_cells.specs.Characters.{is_ascii}
 use Rattle.ti_param.specs.States.{Outcome}
 use Rattle.ti_param.specs.Tree.{Tree, start, value}
 use Rattle.scr_term.specs.declared.operations.capability.Capability.{Capability}
@@ -133,8 +133,8 @@ is_within profile (Enter a) = is_attribute a.0 && is_shown profile a.0
 is_within profile (Set a) = bit_and (shown_set profile) a.0 == a.0
 is_within profile (Fore n) = is_shown_colour profile n
 is_within profile (Back n) = is_shown_colour profile n
-is_within profile (Put byte) = is_character byte
-is_within profile (Repeat byte n) = is_character byte && is_repetition n
+is_within profile (Put byte) = is_ascii byte
+is_within profile (Repeat byte n) = is_ascii byte && is_repetition n
 is_within profile Home = true
 is_within profile Return = true
 is_within profile Clear = true

@@ -4,14 +4,17 @@ ghost use Rattle.scr_term.specs.Operations.Bundled.{BundledIsEcma48};
 ghost use Rattle.scr_term.specs.Operations.Ecma48.{Ecma48Laws};
 ghost use Rattle.scr_term.specs.Operations.Laws.{BlankLaws, BytesActAsTheirOperation, BytesActAsTheirOperations, LookGridLaws, ProfilesHave, RunLaws, ShownPenLaws, StepsKeepStates};
 
+use scr_cells::character_laws;
 use ti_param::{increment_adds_one, number_writes_decimal};
 
 /// What every profile has: it moves the cursor anywhere, clears the screen and writes every
-/// character. If it has `sgr0` it can reset; it can turn on each attribute and set each colour that
+/// character of ASCII. If it has `sgr0` it can reset; it can turn on each attribute and set each colour that
 /// it shows. Without `sgr0` it shows none.
 pub fn profiles_have()
     ensures { ProfilesHave }
-{}
+{
+    character_laws();
+}
 
 /// A step leads from a state of a profile to a state of the same profile.
 pub fn steps_keep_states()

@@ -13,7 +13,7 @@ use crate::operations::capability::Capability;
 use crate::operations::pieces::{SentPiece, entering};
 use crate::operations::prices::Prices;
 use bitflags::Flags;
-use scr_cells::{Attrs, Size, is_character};
+use scr_cells::{Attrs, Size, is_ascii};
 use std::marker::Model;
 use ti_param::Program;
 
@@ -142,8 +142,8 @@ impl Profile {
             Op::Enter(attribute) => is_attribute(attribute) && self.is_shown(attribute),
             Op::Set(attributes) => self.shown.contains(attributes),
             Op::Fore(colour) | Op::Back(colour) => colour < 8 && self.colours,
-            Op::Put(byte) => is_character(byte),
-            Op::Repeat(byte, count) => is_character(byte) && is_repetition(count),
+            Op::Put(byte) => is_ascii(byte),
+            Op::Repeat(byte, count) => is_ascii(byte) && is_repetition(count),
             Op::Home
             | Op::Return
             | Op::Clear

@@ -1,6 +1,6 @@
 -- Characters that are written into a row in one go.
 use Rattle.std.specs.Prelude.{ℕ, ◌+◌, nat_lt, List, length, take, Option, Some, None, if◌then◌else◌}
-use Rattle.scr_cells.specs.CellViews.{is_character}
+use Rattle.scr_cells.specs.Characters.{is_ascii}
 use Rattle.scr_cells.specs.Grids.{grid_with_run}
 use Rattle.scr_cells.specs.LookViews.{LookView}
 use Rattle.scr_cells.specs.MadeRuns.{made_while}
@@ -14,7 +14,7 @@ use Rattle.scr_term.specs.Operations.States.{TerminalState}
 
 -- the look of a character that is written with a pen; none of another operation
 abbrev pub look_of : PenView → Op → Option LookView
-look_of pen (Put byte) = if is_character byte then Some (record { byte = byte; pen = pen }) else None
+look_of pen (Put byte) = if is_ascii byte then Some (record { character = byte; pen = pen }) else None
 look_of pen op = None
 
 -- the looks of the characters that operations begin with, as far as the cursor's row takes them

@@ -1,6 +1,6 @@
 //! The grid, the cursor's spot and the pen of an emulated terminal.
 ghost use Rattle.std.specs.Prelude.{◌≡◌, ◌+◌, ◌<◌, ◌≤◌, IfOk, is_some, length};
-ghost use Rattle.scr_cells.specs.CellViews.{IsCharacter};
+ghost use Rattle.scr_cells.specs.Characters.{IsAscii};
 ghost use Rattle.scr_cells.specs.Grids.{grid_at, grid_filled, grid_of, grid_row, is_in_run, places_left, places_right, rows_down, rows_up};
 ghost use Rattle.scr_cells.specs.LookViews.{IsLook, LookView, blank};
 ghost use Rattle.scr_cells.specs.PictureViews.{IsPlace};
@@ -112,7 +112,7 @@ impl Display {
     /// Writes a graphic character at the cursor, which goes right. At the margin it returns false
     /// and changes nothing.
     pub(crate) fn write(&mut self, byte: u8) -> bool
-        requires { IsCharacter byte }
+        requires { IsAscii byte }
         ensures answer { result ≡ is_some (character_written self.old.columns self.old.state byte) }
         ensures state { self.new ≡ gone_on self.old (character_written self.old.columns self.old.state byte) }
     {
@@ -135,7 +135,7 @@ impl Display {
     /// Writes a graphic character `count` times at the cursor, which goes behind the last. At the
     /// margin, and where the last column would be written, it returns false and changes nothing.
     pub(crate) fn repeat(&mut self, byte: u8, count: u32) -> bool
-        requires character { IsCharacter byte }
+        requires character { IsAscii byte }
         requires few { count ≤ 500 }
         ensures answer { result ≡ is_some (character_repeated self.old.columns self.old.state byte count) }
         ensures state { self.new ≡ gone_on self.old (character_repeated self.old.columns self.old.state byte count) }

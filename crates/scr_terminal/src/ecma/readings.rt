@@ -3,7 +3,7 @@ ghost use Rattle.std.specs.Prelude.{◌≡◌, [], ◌⊎◌};
 ghost use Rattle.scr_term.specs.Ecma.Units.{IsWaiting, is_parameter_byte};
 ghost use Rattle.scr_terminal.specs.Code.Readings.{IsReading};
 
-use scr_cells::is_character;
+use scr_cells::is_ascii;
 
 /// What the next byte of a text is.
 #[derive(Clone, Copy)]
@@ -31,7 +31,7 @@ pub(crate) fn read_byte(part: &[u8], byte: u8) -> Reading
 {
     let length = part.len();
     if length == 0 {
-        if is_character(byte) {
+        if is_ascii(byte) {
             Reading::Graphic
         } else if byte == 0x1B {
             Reading::Held

@@ -3,7 +3,7 @@
 ghost use Rattle.std.specs.Prelude.{◌≡◌, ◌+◌, ◌<◌, ◌↔◌, false, length, [], ◌∷◌, bit_and, option_map, IfOk, IsOk, IsTrue};
 ghost use Rattle.std.specs.Option.{ForSome};
 ghost use Rattle.scr_cells.specs.Attributes.{every_attribute};
-ghost use Rattle.scr_cells.specs.CellViews.{IsCharacter};
+ghost use Rattle.scr_cells.specs.Characters.{IsAscii};
 ghost use Rattle.scr_cells.specs.Grids.{grid_at, grid_row};
 ghost use Rattle.scr_cells.specs.LookViews.{IsLook, LookView};
 ghost use Rattle.scr_cells.specs.PictureViews.{IsPlace};
@@ -200,7 +200,7 @@ impl EcmaScreen {
 
     /// Writes a graphic character at the cursor, which goes right; undefined at the margin.
     fn write(&mut self, byte: u8)
-        requires character { IsCharacter byte }
+        requires character { IsAscii byte }
         requires whole { self.old.waiting ≡ [] }
         ensures { self.new ≡ acted self.old (character_written self.old.columns self.old.state byte) }
     {

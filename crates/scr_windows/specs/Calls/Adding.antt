@@ -1,7 +1,8 @@
 -- What the calls that write characters do. X/Open Curses Issue 7, addch(), addnstr(), insch(), hline(), vline().
 use Rattle.std.specs.Prelude.{ℕ, List, [], ◌∷◌, Result, Ok, Err, ◌+◌, ◌-◌, ◌*◌, ◌/◌, ◌==◌, ◌||◌, ltb, leb, min, bit_or, bit_xor, if◌then◌else◌}
 use Rattle.std.specs.List.{list_any}
-use Rattle.scr_cells.specs.CellViews.{CellView, is_character}
+use Rattle.scr_cells.specs.CellViews.{CellView}
+use Rattle.scr_cells.specs.Characters.{is_ascii}
 use Rattle.scr_cells.specs.Grids.{rows_up}
 use Rattle.scr_cells.specs.declared.attributes.Attrs.{Attrs}
 use Rattle.scr_windows.specs.declared.faults.WinFault.{WinFault}
@@ -24,7 +25,7 @@ written_pair state = if state.pair == 0 then state.background.pair else state.pa
 abbrev pub written_form : ℕ → Attrs → WindowState → CellView
 written_form byte attrs state =
     record {
-      byte = if byte == 32 then state.background.byte else byte;
+      character = if byte == 32 then state.background.character else byte;
       attrs = bit_or (bit_or attrs.0 state.attrs.0) state.background.attrs;
       pair = written_pair state;
     }
@@ -113,7 +114,7 @@ add_text_call desk win bytes = on_window desk (index_of desk win) (λ i.
 unfoldable pub insert_byte_call : DeskView → ℕ → ℕ → Attrs → DeskView × Result (Unit {0}) WinFault
 insert_byte_call desk win byte attrs = on_window desk (index_of desk win) (λ i.
     let s : WindowState = (window_at desk i).state in
-    if is_character byte then (write desk i s.cursor.0 (s.cursor.0 + 1) (row_opened s.cursor.0 s.cursor.1 (written_form byte attrs s)), Ok tt)
+    if is_ascii byte then (write desk i s.cursor.0 (s.cursor.0 + 1) (row_opened s.cursor.0 s.cursor.1 (written_form byte attrs s)), Ok tt)
     else (desk, Err NotAscii))
 
 -- hline(): n places from the cursor to the right, at most to the edge.
@@ -122,7 +123,7 @@ line_across_call desk win byte n = on_window desk (index_of desk win) (λ i.
     let w : WindowView = window_at desk i in
     let y : ℕ = w.state.cursor.0 in
     let x : ℕ = w.state.cursor.1 in
-    if is_character byte then
+    if is_ascii byte then
     ((if n == 0 then desk else write desk i y (y + 1) (run_put y x (min (x + n) w.frame.area.columns) (written_form byte no_attributes w.state))), Ok tt)
     else (desk, Err NotAscii))
 
@@ -133,6 +134,6 @@ line_down_call desk win byte n = on_window desk (index_of desk win) (λ i.
     let y : ℕ = w.state.cursor.0 in
     let x : ℕ = w.state.cursor.1 in
     let end : ℕ = min (y + n) w.frame.area.rows in
-    if is_character byte then
+    if is_ascii byte then
     ((if n == 0 then desk else write desk i y end (column_put x y end (written_form byte no_attributes w.state))), Ok tt)
     else (desk, Err NotAscii))

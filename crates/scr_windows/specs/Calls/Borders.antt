@@ -1,7 +1,8 @@
 -- What the call that draws a border does. X/Open Curses Issue 7, border().
 use Rattle.std.specs.Prelude.{ℕ, List, Result, Ok, Err, slice_index_or, if◌then◌else◌}
 use Rattle.std.specs.List.{list_all}
-use Rattle.scr_cells.specs.CellViews.{CellView, is_character}
+use Rattle.scr_cells.specs.CellViews.{CellView}
+use Rattle.scr_cells.specs.Characters.{is_ascii}
 use Rattle.scr_windows.specs.declared.surfaces.borders.Border.{Border}
 use Rattle.scr_windows.specs.Surfaces.Formulas.{bordered}
 use Rattle.scr_windows.specs.declared.faults.WinFault.{WinFault}
@@ -34,5 +35,5 @@ border_of bytes state =
 unfoldable pub border_call : DeskView → ℕ → List ℕ → DeskView × Result (Unit {0}) WinFault
 border_call desk win bytes = on_window desk (index_of desk win) (λ i.
     let w : WindowView = window_at desk i in
-    if list_all is_character bytes then (write desk i 0 w.frame.area.rows (bordered w.frame.area.rows w.frame.area.columns (border_of bytes w.state)), Ok tt)
+    if list_all is_ascii bytes then (write desk i 0 w.frame.area.rows (bordered w.frame.area.rows w.frame.area.columns (border_of bytes w.state)), Ok tt)
     else (desk, Err NotAscii))

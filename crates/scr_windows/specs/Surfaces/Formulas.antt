@@ -51,7 +51,7 @@ bordered rows columns border at r c =
 
 -- overlay(): a cell replaces another, except that a blank, whatever its attributes, leaves it.
 abbrev pub over : CellView → CellView → CellView
-over cell under = if cell.byte == 32 then under else cell
+over cell under = if cell.character == 32 then under else cell
 
 -- copywin(): a cell laid over another; with `overlay`, a blank leaves it.
 abbrev pub laid : Bool → CellView → CellView → CellView

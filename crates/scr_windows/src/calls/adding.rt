@@ -18,7 +18,7 @@ use crate::frames::WindowState;
 use crate::laws::surface_laws;
 use crate::surfaces::Drawing;
 use bitflags::Flags;
-use scr_cells::{Attrs, Cell, is_character};
+use scr_cells::{Attrs, Cell, character_laws, is_ascii};
 
 impl Desk {
     /// Adds a byte at a window's cursor, with these attributes besides those of the window and of its background.
@@ -56,7 +56,7 @@ impl Desk {
         ensures size { HasSameSize self.old self.new }
     {
         let canvas = self.canvas(win)?;
-        if !is_character(byte) {
+        if !is_ascii(byte) {
             return Err(WinFault::NotAscii);
         }
         let (row, column) = canvas.state.cursor;
@@ -78,7 +78,7 @@ impl Desk {
         ensures size { HasSameSize self.old self.new }
     {
         let canvas = self.canvas(win)?;
-        if !is_character(byte) {
+        if !is_ascii(byte) {
             return Err(WinFault::NotAscii);
         }
         let (row, column) = canvas.state.cursor;
@@ -105,7 +105,7 @@ impl Desk {
         ensures size { HasSameSize self.old self.new }
     {
         let canvas = self.canvas(win)?;
-        if !is_character(byte) {
+        if !is_ascii(byte) {
             return Err(WinFault::NotAscii);
         }
         let (row, column) = canvas.state.cursor;
@@ -162,7 +162,7 @@ impl Desk {
     {
         let canvas = self.canvas_at(index);
         let room = (canvas.area.columns - 1 - canvas.state.cursor.1) as usize;
-        if room < 2 || !is_character(text[at]) {
+        if room < 2 || !is_ascii(text[at]) {
             return (1, self.add_at(index, sheet, text[at], Attrs(0)));
         }
         let end = at + room.min(text.len() - at);
@@ -341,15 +341,20 @@ pub(crate) fn written_form(byte: u8, attrs: Attrs, state: WindowState) -> Cell
     requires pair { IsPair state.pair }
     ensures { result ≡ written_form byte attrs state }
 {
+    character_laws();
     let background = state.background;
-    let shown = if byte == 32 { background.byte() } else { byte };
+    let shown = if byte == 32 {
+        background.character()
+    } else {
+        char::from(byte)
+    };
     let all = attrs.union(state.attrs).union(background.attrs());
     let pair = if state.pair == 0 {
         background.pair()
     } else {
         state.pair
     };
-    Cell::paired(shown, all, pair).unwrap_or(Cell::blank())
+    Cell::of(shown, all, pair).unwrap_or(Cell::blank())
 }
 
 // Stayed if either is.

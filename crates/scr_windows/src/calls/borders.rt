@@ -1,7 +1,8 @@
 //! The call that draws a border. The definition is in `specs/Calls/Borders.antt`.
 ghost use Rattle.std.specs.Prelude.{◌≡◌, ◌<◌, length, true};
 ghost use Rattle.std.specs.List.{list_all};
-ghost use Rattle.scr_cells.specs.CellViews.{IsPair, is_character};
+ghost use Rattle.scr_cells.specs.CellViews.{IsPair};
+ghost use Rattle.scr_cells.specs.Characters.{is_ascii};
 ghost use Rattle.scr_windows.specs.DeskViews.{HasSameSize};
 ghost use Rattle.scr_windows.specs.Calls.Adding.{written_form};
 ghost use Rattle.scr_windows.specs.Calls.Borders.{edge_cell, border_of, border_call};
@@ -11,7 +12,7 @@ use crate::desks::Desk;
 use crate::faults::{Win, WinFault};
 use crate::frames::WindowState;
 use crate::surfaces::{Border, Drawing};
-use scr_cells::{Attrs, Cell, is_character};
+use scr_cells::{Attrs, Cell, is_ascii};
 
 impl Desk {
     /// Writes eight bytes 32 to 126 along the edges of a window: on the left, right, top and bottom edge, then in the
@@ -35,15 +36,15 @@ impl Desk {
 
 // Whether all bytes can be drawn.
 fn are_characters(bytes: &[u8]) -> bool
-    ensures { result ≡ list_all is_character bytes.now }
+    ensures { result ≡ list_all is_ascii bytes.now }
 {
-    bytes.iter().all(|byte| is_character(*byte))
+    bytes.iter().all(|byte| is_ascii(*byte))
 }
 
 // The cells of a border.
 fn border_of(bytes: &[u8], state: &WindowState) -> Border
     requires len { length bytes.now ≡ 8 }
-    requires graphic { list_all is_character bytes.now ≡ true }
+    requires graphic { list_all is_ascii bytes.now ≡ true }
     requires pair { IsPair state.now.pair }
     ensures { result ≡ border_of bytes.now state.now }
 {
@@ -70,7 +71,7 @@ fn border_of(bytes: &[u8], state: &WindowState) -> Border
 // The written form of a byte among those of a border.
 fn edge(bytes: &[u8], k: usize, state: &WindowState) -> Cell
     requires here { k < length bytes.now }
-    requires graphic { list_all is_character bytes.now ≡ true }
+    requires graphic { list_all is_ascii bytes.now ≡ true }
     requires pair { IsPair state.now.pair }
     ensures { result ≡ edge_cell bytes.now state.now k }
 {

@@ -114,7 +114,7 @@ impl Surface {
 fn over(cell: Cell, under: Cell) -> Cell
     ensures { result ≡ over cell under }
 {
-    if cell.byte() == 32 { under } else { cell }
+    if cell.code() == 32 { under } else { cell }
 }
 
 // The cell of a byte where a blank gets this one; `None` if it is no character.

@@ -1,6 +1,9 @@
-use Rattle.std.proofs.Common.{arith, option_map, rules, sym, true, false, ap, Some, ◌≡◌, ◌∙◌, ◌<◌}
+use Rattle.std.proofs.Common.{arith, get_or, option_map, rules, subst, sym, true, false, ap, Some, ◌≡◌, ◌∙◌, ◌<◌}
+use Rattle.scr_cells.specs.CellViews.{blank_cell}
+use Rattle.scr_cells.specs.Characters.{IsAscii, stand_in}
+use Rattle.scr_cells.specs.Grids.{grid_at}
 use Rattle.scr_plan.proofs.JoinLaws.{differs_by, one_and_more, painted, passed, place_shown}
-use Rattle.scr_plan.proofs.JoinedRowLaws.{byte_is, painted_goes, passed_goes}
+use Rattle.scr_plan.proofs.JoinedRowLaws.{character_is, painted_goes, passed_goes}
 use Rattle.scr_plan.proofs.strokes.Draft.join_next.Goals as goal
 
 pub returns-then-is_shown_in-clause-all : goal.returns-then-is_shown_in-clause-all
@@ -24,7 +27,10 @@ returns-then-is_shown_in-clause-left c =
     (sym c.is_shown_in.ensures ∙ shown)) c.unlike_from-next.ensures.same)).1
 
 pub join_write-requires-clause-byte : goal.join_write-requires-clause-byte
-join_write-requires-clause-byte c = byte_is _ c.size-size.ensures.picture c.args.line.now.row c.args.column c.args.line.now.cells.now c.seen_in-byte.result.0 c.requires.line.cells c.seen_in-byte.ensures.byte
+join_write-requires-clause-byte c =
+    let is : c.seen_in-byte.result.0 ≡ stand_in (grid_at blank_cell c.args.scene.now.picture.now.lines c.args.line.now.row c.args.column).character
+    = c.seen_in-byte.ensures.byte ∙ ap (λ cells. stand_in (get_or cells c.args.column blank_cell).character) c.requires.line.cells in
+    subst IsAscii (sym is) (c.character_laws.ensures.stand_in _ (character_is _ c.size-size.ensures.picture c.args.line.now.row c.args.column))
 
 pub returns-then-self-clause-left : goal.returns-then-self-clause-left
 returns-then-self-clause-left c =
@@ -39,7 +45,7 @@ pub returns-then-self-clause-all : goal.returns-then-self-clause-all
 returns-then-self-clause-all c =
     let before = option_map (λ looks. looks.now) c.args.line.now.before in
     let unlike : c.is_shown_in.result ≡ false = search rules in
-    painted_goes c.args.scene.now.profile.now c.args.scene.now.painter c.args.scene.now.picture.now before c.args.line.now.row c.args.column c.args.self.now c.join_write.new.self c.args.left (record { byte = c.seen_in-byte.result.0; pen = c.seen_in-byte.result.1 })
+    painted_goes c.args.scene.now.profile.now c.args.scene.now.painter c.args.scene.now.picture.now before c.args.line.now.row c.args.column c.args.self.now c.join_write.new.self c.args.left (record { character = c.seen_in-byte.result.0; pen = c.seen_in-byte.result.1 })
     (place_shown c.args.scene.now.painter c.args.scene.now.picture.now c.args.line.now.row before c.args.column c.args.line.now.cells.now c.seen_in-byte.result.0 c.seen_in-byte.result.1 c.requires.line.cells c.seen_in-byte.ensures.byte c.seen_in-byte.ensures.pen
     (sym c.is_shown_in.ensures ∙ unlike)) c.requires.left
     (differs_by c.args.scene.now.painter c.args.scene.now.picture.now c.args.line.now.row before c.args.column c.args.line.now.cells.now c.seen_in-byte.result.0 c.seen_in-byte.result.1 c.requires.line.cells c.seen_in-byte.ensures.byte c.seen_in-byte.ensures.pen)

@@ -1,5 +1,5 @@
 use Rattle.std.proofs.Common.{◌≡◌, ◌+◌, ◌-◌, ◌∙◌, ap, arith, drop, get_or, rules, subst, sym, take, true}
-use Rattle.scr_cells.specs.CellViews.{is_character}
+use Rattle.scr_cells.specs.Characters.{is_ascii}
 use Rattle.scr_windows.specs.declared.faults.Added.{Added}
 use Rattle.scr_windows.specs.DeskViews.{DeskView}
 use Rattle.scr_windows.specs.Code.Canvases.{IsSheetOf}
@@ -14,12 +14,12 @@ returns-then-room-lt2-clause-sheet c =
 
 pub add_stretch-requires-clause-some : goal.add_stretch-requires-clause-some
 add_stretch-requires-clause-some c =
-    let is : is_character (get_or c.args.text.now c.args.at 0) ≡ true = search rules in
+    let is : is_ascii (get_or c.args.text.now c.args.at 0) ≡ true = search rules in
     part_begins c.args.text.now c.args.at (c.args.at + c.min.result - c.args.at) (omega arith) (omega arith) is
 
 pub returns-clause-some : goal.returns-clause-some
 returns-clause-some c =
-    let is : is_character (get_or c.args.text.now c.args.at 0) ≡ true = search rules in
+    let is : is_ascii (get_or c.args.text.now c.args.at 0) ≡ true = search rules in
     omega (arith, c.add_stretch.ensures.count, part_begins c.args.text.now c.args.at (c.args.at + c.min.result - c.args.at) (omega arith) (omega arith) is)
 
 pub returns-clause-within : goal.returns-clause-within
