@@ -2,6 +2,7 @@ pub mod BuiltLaws
 pub mod CharacterLaws
 pub mod DifferenceLaws
 pub mod GridLaws
+pub mod LaneLaws
 pub mod MadeRunLaws
 pub mod MoveLaws
 pub mod PlaceLaws

@@ -44,11 +44,13 @@ abbrev pub IsCharacter : ℕ → Type 0
 IsCharacter code = IsTrue (is_character code)
 
 -- Runs of characters that have a likeness in ASCII: the code of the first, and the bytes for it and those after it.
--- They are Latin letters and signs; dashes; quotation marks; bullets; the ellipsis; arrows; lines, with `-` for what
--- has horizontal parts alone, `|` for what has vertical parts alone and `+` for what joins or turns; blocks; triangles.
+-- They are Latin letters and signs; pi; dashes; quotation marks; bullets; the ellipsis; arrows; the signs for unequal,
+-- less or equal and greater or equal; scan lines; lines, with `-` for what has horizontal parts alone, `|` for what has
+-- vertical parts alone and `+` for what joins or turns; blocks; triangles; the diamond.
 unfoldable pub likenesses : List (ℕ × List ℕ)
 likenesses =
     (0x00A0, codes " !cL$Y|S\"ca<--R-o+23'uP.,1o>///?AAAAAAACEEEEIIIIDNOOOOOxOUUUUYTsaaaaaaaceeeeiiiidnooooo/ouuuuyty")
+    ∷ (0x03C0, codes "*")
     ∷ (0x2010, codes "------")
     ∷ (0x2018, codes "''''\"\"\"\"")
     ∷ (0x2022, codes "o")
@@ -56,9 +58,14 @@ likenesses =
     ∷ (0x2190, codes "<^>v")
     ∷ (0x21D0, codes "<^>v")
     ∷ (0x2219, codes "o")
+    ∷ (0x2260, codes "!")
+    ∷ (0x2264, codes "<>")
+    ∷ (0x23BA, codes "----")
     ∷ (0x2500, codes "--||--||--||++++++++++++++++++++++++++++++++++++++++++++++++++++++++++++++++--||-|+++++++++++++++++++++++++++++++/\\X-|-|-|-|-|-|")
     ∷ (0x2580, codes "################################")
+    ∷ (0x25AE, codes "#")
     ∷ (0x25B2, codes "^^^^>>>>>>vvvv<<<<<<")
+    ∷ (0x25C6, codes "+")
     ∷ (0x25CF, codes "o")
     ∷ []
 

@@ -75,15 +75,22 @@ fn likeness(code: u32) -> u8
 {
     match code {
         0x00A0..=0x00FF => LATIN[(code - 0x00A0) as usize],
+        0x03C0 => b'*',
         0x2010..=0x2015 => b"------"[(code - 0x2010) as usize],
         0x2018..=0x201F => b"''''\"\"\"\""[(code - 0x2018) as usize],
         0x2022 | 0x2219 | 0x25CF => b'o',
         0x2026 => b'.',
         0x2190..=0x2193 => b"<^>v"[(code - 0x2190) as usize],
         0x21D0..=0x21D3 => b"<^>v"[(code - 0x21D0) as usize],
+        0x2260 => b'!',
+        0x2264 => b'<',
+        0x2265 => b'>',
+        0x23BA..=0x23BD => b"----"[(code - 0x23BA) as usize],
         0x2500..=0x257F => LINES[(code - 0x2500) as usize],
         0x2580..=0x259F => b"################################"[(code - 0x2580) as usize],
+        0x25AE => b'#',
         0x25B2..=0x25C5 => b"^^^^>>>>>>vvvv<<<<<<"[(code - 0x25B2) as usize],
+        0x25C6 => b'+',
         _ => b'?',
     }
 }

@@ -1,11 +1,12 @@
 //! Which places of a row surely show, or surely do not show, what is seen of their cells.
 //!
-//! They are looked at eight at a time: a filter before a comparison place by place.
-ghost use Rattle.std.specs.Prelude.{ℕ, ◌≡◌, ◌≢◌, ◌+◌, ◌%◌, ◌<◌, ◌≤◌, All, IfSome, length, slice_index_or, true};
+//! They are looked at eight at a time, and where one of eight ends a count, those before it are counted. Fewer than eight
+//! that are left are for the caller to look at, place by place.
+ghost use Rattle.std.specs.Prelude.{ℕ, ◌≡◌, ◌≢◌, ◌+◌, ◌<◌, ◌≤◌, All, IfSome, bit_and, length, slice_index_or};
 ghost use Rattle.scr_cells.specs.CellViews.{blank_cell};
 ghost use Rattle.scr_cells.specs.LookViews.{IsLook};
 ghost use Rattle.scr_cells.specs.Showing.{HasRendition, IsSeenAt, IsUnseenAt};
-ghost use Rattle.scr_cells.specs.Code.Numbers.{HasBase, IsLimit, IsNumberAt, IsUnlikeAt, cell_of};
+ghost use Rattle.scr_cells.specs.Code.Numbers.{HasBase, HasLimit, cell_of};
 
 use crate::differences::{Packed, eight};
 use crate::{Attrs, Cell, Look};
@@ -14,29 +15,35 @@ use std::simd::prelude::*;
 /// A count of places from the left, each of which shows what is seen of its cell on a terminal that shows these
 /// attributes, whatever the colours of its pairs are.
 ///
-/// The places are looked at eight at a time. The count ends, at the latest, before a cell with a pair, before one
-/// with a character above ASCII, and before one with an attribute if not every attribute is shown, so a caller goes on
-/// from there place by place. The rows have one length.
+/// The places are looked at eight at a time, and fewer than eight that are left are not looked at. The count ends, at the
+/// latest, before a cell with a pair, before one with a character above ASCII, and before one with an attribute if not
+/// every attribute is shown, so a caller goes on from there place by place. The rows have one length.
 pub fn shown_before(looks: &[Look], cells: &[Cell], shown: Attrs) -> usize
     requires { length looks.now ≡ length cells.now }
     ensures inside { result ≤ length looks.now }
     ensures same { (i : ℕ) → i < result → IsSeenAt shown.0 looks.now cells.now i }
 {
     each_is_look(looks);
-    let limit = limit_of(shown);
+    let hidden = hidden_bits(shown);
+    let whole = looks.len() / 8 * 8;
     let mut at = 0;
-    while looks.len() - at >= 8 && are_shown(looks, cells, at, limit) {
+    while at < whole {
+        let others = unless_same(eight(looks, at), eight(cells, at), hidden);
+        if others.reduce_or() != 0 {
+            return at + zeros_from_left(others);
+        }
         at += 8;
     }
     at
 }
 
-// A number below which a cell has no pair, and only attributes that are shown.
-fn limit_of(shown: Attrs) -> u32
-    ensures limit { IsLimit shown.0 result }
-    ensures whole { result % 65536 ≡ 0 }
+// Bits of a cell's number, none of which is set if it has no pair, and only attributes that are shown.
+#[tactic(auto, using(crate::proofs::ShowingLaws::limit_of_all, crate::proofs::ShowingLaws::limit_of_none))]
+fn hidden_bits(shown: Attrs) -> u32
+    ensures { HasLimit shown.0 result }
 {
-    if shown.0 == 127 { 8388608 } else { 65536 }
+    let shows_all = shown.0 == 127;
+    if shows_all { 0xFF80_0000 } else { 0xFFFF_0000 }
 }
 
 // What holds for every look holds for each of these. The loop is for the proof alone, which learns what holds for a look
@@ -49,22 +56,27 @@ fn each_is_look(looks: &[Look])
     }
 }
 
-// Whether eight looks have the numbers of their cells, and these are below a limit.
-fn are_shown(looks: &[Look], cells: &[Cell], at: usize, limit: u32) -> bool
-    requires looks { at + 8 ≤ length looks.now }
-    requires cells { at + 8 ≤ length cells.now }
-    ensures { result ≡ true → (i : ℕ) → at ≤ i → i < at + 8 → IsNumberAt limit looks.now cells.now i }
+// A number for each of eight places: 0 where the two numbers are the same and have none of some bits. These are numbers and
+// no mask, since one test of all their bits tells whether each is 0. The mask is made where a count ends.
+fn unless_same(a: u32x8, b: u32x8, hidden: u32) -> u32x8
+    requires a { length a ≡ 8 }
+    requires b { length b ≡ 8 }
+    ensures eight { length result ≡ 8 }
+    ensures zero { (k : ℕ) → k < 8 → slice_index_or result k 0 ≡ 0 → (slice_index_or a k 0 ≡ slice_index_or b k 0) × (slice_index_or b k 0 < 4294967296) × (bit_and (slice_index_or b k 0) hidden ≡ 0) }
 {
-    let numbers = eight(cells, at);
-    eight(looks, at).simd_ne(numbers).to_bitmask() == 0 && are_below(numbers, limit)
+    (a - b) | (b & u32x8::splat(hidden))
 }
 
-// Whether eight numbers are below a limit.
-fn are_below(numbers: u32x8, limit: u32) -> bool
+// How many of eight numbers, from the left, are 0.
+fn zeros_from_left(numbers: u32x8) -> usize
     requires { length numbers ≡ 8 }
-    ensures { result ≡ true → (k : ℕ) → k < 8 → slice_index_or numbers k 0 < limit }
+    ensures few { result ≤ 8 }
+    ensures zeros { (k : ℕ) → k < result → slice_index_or numbers k 0 ≡ 0 }
 {
-    numbers.simd_ge(u32x8::splat(limit)).to_bitmask() == 0
+    numbers
+        .simd_eq(u32x8::splat(0))
+        .to_bitmask()
+        .trailing_ones() as usize
 }
 
 /// A count of places from the left, none of which shows what is seen of its cell on a terminal that shows these
@@ -82,8 +94,13 @@ pub fn unshown_before(looks: &[Look], cells: &[Cell], shown: Attrs) -> usize
     let Some(base) = base_of(cells, shown) else {
         return 0;
     };
+    let whole = looks.len() / 8 * 8;
     let mut at = 0;
-    while looks.len() - at >= 8 && are_unshown(looks, cells, at, base) {
+    while at < whole {
+        let others = unless_unlike(eight(looks, at), eight(cells, at), base);
+        if others.reduce_or() != 0 {
+            return at + zeros_from_left(others);
+        }
         at += 8;
     }
     at
@@ -99,8 +116,13 @@ pub fn alike_before(cells: &[Cell]) -> usize
         return 0;
     };
     let base = first / 65536 * 65536;
+    let whole = cells.len() / 8 * 8;
     let mut at = 0;
-    while cells.len() - at >= 8 && are_between(eight(cells, at), base, 65536) {
+    while at < whole {
+        let others = unless_alike(eight(cells, at), base);
+        if others.reduce_or() != 0 {
+            return at + zeros_from_left(others);
+        }
         at += 8;
     }
     at
@@ -112,7 +134,7 @@ fn base_of(cells: &[Cell], shown: Attrs) -> Option<u32>
     ensures { IfSome result (HasBase shown.0 cells.now) }
 {
     let base = first_number(cells)? / 65536 * 65536;
-    if base >= limit_of(shown) {
+    if base & hidden_bits(shown) != 0 {
         return None;
     }
     Some(base)
@@ -128,38 +150,25 @@ fn first_number(cells: &[Cell]) -> Option<u32>
     Some(cells[0].packed())
 }
 
-// Whether eight looks have other numbers than their cells, and the cells' are above a base by a character of ASCII alone.
-fn are_unshown(looks: &[Look], cells: &[Cell], at: usize, base: u32) -> bool
-    requires looks { at + 8 ≤ length looks.now }
-    requires cells { at + 8 ≤ length cells.now }
-    ensures { result ≡ true → (i : ℕ) → at ≤ i → i < at + 8 → IsUnlikeAt base looks.now cells.now i }
-{
-    let numbers = eight(cells, at);
-    are_other(eight(looks, at), numbers) && are_between(numbers, base, 128)
-}
-
-// Whether none of eight numbers is the one in the same place of eight others.
-fn are_other(a: u32x8, b: u32x8) -> bool
+// A number for each of eight places: 0 where the two numbers differ and the second is above a base by a character of ASCII
+// alone.
+fn unless_unlike(a: u32x8, b: u32x8, base: u32) -> u32x8
     requires a { length a ≡ 8 }
     requires b { length b ≡ 8 }
-    ensures { result ≡ true → (k : ℕ) → k < 8 → slice_index_or a k 0 ≢ slice_index_or b k 0 }
+    ensures eight { length result ≡ 8 }
+    ensures zero { (k : ℕ) → k < 8 → slice_index_or result k 0 ≡ 0 → (slice_index_or a k 0 ≢ slice_index_or b k 0) × (base ≤ slice_index_or b k 0) × (slice_index_or b k 0 < base + 128) }
 {
-    a.simd_eq(b).to_bitmask() == 0
+    a.simd_eq(b).select(
+        u32x8::splat(u32::MAX),
+        (b & u32x8::splat(0xFFFF_FF80)) - u32x8::splat(base),
+    )
 }
 
-// Whether eight numbers are from a base on, and above it by less than a count.
-fn are_between(numbers: u32x8, base: u32, count: u32) -> bool
+// A number for each of eight places: 0 where the number is above a base by a character alone.
+fn unless_alike(numbers: u32x8, base: u32) -> u32x8
     requires { length numbers ≡ 8 }
-    ensures from { result ≡ true → (k : ℕ) → k < 8 → base ≤ slice_index_or numbers k 0 }
-    ensures below { result ≡ true → (k : ℕ) → k < 8 → slice_index_or numbers k 0 < base + count }
+    ensures eight { length result ≡ 8 }
+    ensures zero { (k : ℕ) → k < 8 → slice_index_or result k 0 ≡ 0 → (base ≤ slice_index_or numbers k 0) × (slice_index_or numbers k 0 < base + 65536) }
 {
-    are_from(numbers, base) && are_below(numbers, base.saturating_add(count))
-}
-
-// Whether eight numbers are from a base on.
-fn are_from(numbers: u32x8, base: u32) -> bool
-    requires { length numbers ≡ 8 }
-    ensures { result ≡ true → (k : ℕ) → k < 8 → base ≤ slice_index_or numbers k 0 }
-{
-    numbers.simd_lt(u32x8::splat(base)).to_bitmask() == 0
+    (numbers & u32x8::splat(0xFFFF_0000)) - u32x8::splat(base)
 }

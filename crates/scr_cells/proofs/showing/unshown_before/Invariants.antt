@@ -1,4 +1,4 @@
-use Rattle.std.proofs.Common.{ℕ, ◌<◌, ◌≤◌, ◌-◌, get_or, length}
+use Rattle.std.proofs.Common.{ℕ, ◌<◌, ◌≤◌, ◌-◌, ◌%◌, ◌≡◌, get_or, length}
 use Rattle.scr_cells.specs.CellViews.{blank_cell}
 use Rattle.scr_cells.specs.Showing.{HasRendition, IsUnseenAt}
 use Rattle.scr_cells.proofs.showing.unshown_before.Given as goal
@@ -7,6 +7,7 @@ use Rattle.scr_cells.proofs.showing.unshown_before.Given as goal
 abbrev pub invariant-loop-at : goal.invariant-loop-at
 invariant-loop-at l = record {
   inside : l.at ≤ length l.looks;
+  eights : l.at % 8 ≡ 0;
   unseen : (i : ℕ) → i < l.at → IsUnseenAt l.fn.shown.0 l.looks l.cells i;
   alike : (i : ℕ) → i < l.at → HasRendition (get_or l.cells 0 blank_cell) l.cells i;
 }

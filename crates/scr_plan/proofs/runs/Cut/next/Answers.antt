@@ -15,7 +15,7 @@ returns-clause-some c =
     ] in
     elim c.else-self.branch [
       | else-self-via-then-self+else-not-find_stretch w ↦
-      let found : w.find_stretch.result ≡ true = search rules in
-      cut_from c.args.self.now _ new run w.find_stretch.ensures.from w.find_stretch.ensures.same (w.find_stretch.ensures.some found) (subst (λ old. CutsOff old new run) w.self-is cut)
+          let found : w.find_stretch.result ≡ true = search rules in
+          cut_from c.args.self.now _ new run w.find_stretch.ensures.from w.find_stretch.ensures.same (w.find_stretch.ensures.some found) (subst (λ old. CutsOff old new run) w.self-is cut)
       | else-self-via-else-self w ↦ subst (λ old. CutsOff old new run) w.self-is cut
     ]
