@@ -194,7 +194,8 @@ pub(crate) struct Taken {
     pub fault: Option<ErrorKind>,
 }
 
-// Sends what waits in a buffer. What a failed put did not accept stays there.
+// Sends what waits in a buffer, if anything does. What a failed put did not accept stays there.
+#[inline(always)]
 fn send_waiting<W: Counted>(waiting: &mut Vec<u8>, out: &mut W) -> Taken
     ensures cut { IsCut waiting.old.items [] (W.told out.old).taken (W.told out.new).taken result.bytes waiting.new.items }
     ensures whole { result.fault ≡ None → waiting.new.items ≡ [] }
@@ -204,6 +205,12 @@ fn send_waiting<W: Counted>(waiting: &mut Vec<u8>, out: &mut W) -> Taken
     ensures puts { (W.told out.new).failed_puts ≡ counted (is_some result.fault) (W.told out.old).failed_puts }
     ensures finishes { (W.told out.new).failed_finishes ≡ (W.told out.old).failed_finishes }
 {
+    if waiting.is_empty() {
+        return Taken {
+            bytes: 0,
+            fault: None,
+        };
+    }
     let taken = put_whole(waiting, out);
     drop_front(waiting, taken.bytes);
     taken
