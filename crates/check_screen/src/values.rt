@@ -12,8 +12,8 @@ use scr_cells::{
 };
 
 /// The lines `new_size R C`, `union A B`, `difference A B`, `contains A B`, `all_attributes`, `new_cell B A`, `paired B
-/// A P`, `new_look B A F G`, `blank_cell`, `blank_look` and `same_look B A F G B A F G`, where a look is a byte,
-/// attributes, a foreground and a background; and those about rows. Tells whether a line is one of them.
+/// A P`, `cell_of CODE A P`, `new_look B A F G`, `blank_cell`, `blank_look` and `same_look B A F G B A F G`, where a
+/// look is a byte, attributes, a foreground and a background; and those about rows. Tells whether a line is one of them.
 pub fn answer_of_values(line: &mut Line<'_>) -> Result<bool, Trouble> {
     let (words, got) = (&mut line.words, &mut line.got);
     match line.name {
@@ -24,6 +24,12 @@ pub fn answer_of_values(line: &mut Line<'_>) -> Result<bool, Trouble> {
         "paired" => {
             let cell = Cell::paired(words.byte(), Attrs(words.byte()), words.number());
             add_any(cell, got, add_cell);
+        }
+        "cell_of" => {
+            let code = words.number();
+            let (attrs, pair) = (Attrs(words.byte()), words.number());
+            let cell = char::from_u32(code).and_then(|character| Cell::of(character, attrs, pair));
+            add_any(cell, got, add_whole_cell);
         }
         "blank_cell" => add_cell(Cell::blank(), got),
         "new_look" => add_any(read_look(words), got, add_look),
@@ -80,6 +86,12 @@ fn read_row(line: &mut Line<'_>) -> Result<Row, Trouble> {
         row.looks.push(Look::new(*byte, Attrs(0), None, None).unwrap_or(Look::blank()))?;
     }
     Ok(row)
+}
+
+// Adds what a cell holds, by its stand-in, and then the code of its character.
+fn add_whole_cell(cell: Cell, got: &mut Buffer) {
+    add_cell(cell, got);
+    add_number(i64::from(u32::from(cell.character())), got);
 }
 
 fn add_place(place: Option<usize>, got: &mut Buffer) {
