@@ -50,7 +50,7 @@ fn is_shown(category: GeneralCategory) -> bool
 }
 
 /// The stand-in of a character.
-#[inline]
+#[inline(always)]
 #[tactic(auto, unfolding(crate::specs::Characters::stand_in))]
 pub(crate) fn stand_in(code: u32) -> u8
     ensures { result ≡ stand_in code }
@@ -68,7 +68,10 @@ AAAAAAACEEEEIIIIDNOOOOOxOUUUUYTsaaaaaaaceeeeiiiidnooooo/ouuuuyty";
 const LINES: &[u8] = b"--||--||--||++++++++++++++++++++++++++++++++++++++++++++++++++++\
 ++++++++++++--||-|+++++++++++++++++++++++++++++++/\\X-|-|-|-|-|-|";
 
-// What stands for a character above ASCII: that of the run that has it, if one has.
+// What stands for a character above ASCII: that of the run that has it, if one has. It is called, and seldom, so that the
+// loops over characters of ASCII stay short.
+#[cold]
+#[inline(never)]
 #[tactic(auto, unfolding(crate::specs::Characters::likenesses, crate::specs::Characters::likeness_in))]
 fn likeness(code: u32) -> u8
     ensures { result ≡ likeness_in likenesses code }

@@ -6,6 +6,9 @@ use crate::scenes::{Line, Scene};
 use scr_cells::Cell;
 use scr_term::{Op, Profile};
 
+// The code of a blank.
+const BLANK: u32 = 32;
+
 // The column of a blank from `from` on, or `end` if none is found. Only one column in `many` is
 // looked at: so the first `many` blanks in a row are found, or some blank before them.
 pub(crate) fn blank_of_many(cells: &[Cell], from: u32, end: u32, many: u32) -> u32
@@ -17,7 +20,7 @@ pub(crate) fn blank_of_many(cells: &[Cell], from: u32, end: u32, many: u32) -> u
 {
     let mut column = from.saturating_add(many - 1);
     while column < end {
-        if cells[column as usize].byte() == b' ' {
+        if cells[column as usize].code() == BLANK {
             return column;
         }
         column = column.saturating_add(many);
@@ -34,7 +37,7 @@ pub(crate) fn blanks_begin(cells: &[Cell], from: u32, column: u32) -> u32
     ensures column { result ≤ column }
 {
     let mut first = column;
-    while first > from && cells[first as usize - 1].byte() == b' ' {
+    while first > from && cells[first as usize - 1].code() == BLANK {
         first -= 1;
     }
     first
@@ -49,7 +52,7 @@ pub(crate) fn blanks_end(cells: &[Cell], column: u32, end: u32) -> u32
     ensures end { result ≤ end }
 {
     for place in column..end {
-        if cells[place as usize].byte() != b' ' {
+        if cells[place as usize].code() != BLANK {
             return place;
         }
     }

@@ -15,18 +15,23 @@ ghost use Rattle.scr_plan.specs.Repaints.{erased_column, look_eq};
 ghost use Rattle.scr_plan.specs.Code.Scenes.{IsLine, IsScene};
 
 use crate::scenes::{Line, Scene};
-use scr_cells::{Cell, Look, Pen, alike_before, shown_before, unshown_before};
+use scr_cells::{Cell, Look, Pen, alike_before, character_laws, shown_before, unshown_before};
 use scr_term::Op;
 
 impl Scene<'_> {
-    // What is seen of a row's cell: its byte, and the pen that it is written with.
+    // What is seen of a row's cell: its byte, and the pen that it is written with. Most cells are
+    // blank, and their pen is plain.
     #[inline(always)]
     pub(crate) fn seen_in(&self, cells: &[Cell], column: u32) -> (u8, Pen)
         requires { column < length cells.now }
         ensures byte { result.0 ≡ (painter_sees self.now.painter self.now.picture.now.pairs (slice_index_or cells.now column blank_cell)).character }
         ensures pen { result.1 ≡ (painter_sees self.now.painter self.now.picture.now.pairs (slice_index_or cells.now column blank_cell)).pen }
     {
+        character_laws();
         let cell = cell_in(cells, column);
+        if cell == Cell::blank() {
+            return (b' ', Pen::plain());
+        }
         (cell.byte(), self.painter.pen_of(self.picture, cell))
     }
 

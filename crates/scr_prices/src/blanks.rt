@@ -9,6 +9,9 @@ ghost use Rattle.std.specs.Prelude.{◌<◌, ◌≤◌, length};
 use crate::ways::Chooser;
 use scr_cells::{Cell, Pen};
 
+// The code of a blank.
+pub(crate) const BLANK: u32 = 32;
+
 /// Whether cells are all seen blank: as blanks without attributes, in default colours.
 pub fn is_blank(chooser: &Chooser<'_>, cells: &[Cell]) -> bool {
     for cell in cells {
@@ -21,7 +24,7 @@ pub fn is_blank(chooser: &Chooser<'_>, cells: &[Cell]) -> bool {
 
 // Whether a cell is seen blank.
 fn is_blank_cell(chooser: &Chooser<'_>, cell: Cell) -> bool {
-    cell == Cell::blank() || cell.byte() == b' ' && chooser.pen_of(cell).is_plain()
+    cell == Cell::blank() || cell.code() == BLANK && chooser.pen_of(cell).is_plain()
 }
 
 impl Chooser<'_> {
@@ -34,7 +37,7 @@ impl Chooser<'_> {
         for cell in cells {
             let is_other = *cell != Cell::blank();
             places = places.wrapping_add(u32::from(is_other));
-            unsure = unsure.wrapping_add(u32::from(is_other & (cell.byte() == b' ')));
+            unsure = unsure.wrapping_add(u32::from(is_other & (cell.code() == BLANK)));
         }
         if unsure > 0 {
             places = places.saturating_sub(self.blanks_among(cells));
@@ -49,7 +52,7 @@ impl Chooser<'_> {
     fn blanks_among(&self, cells: &[Cell]) -> u32 {
         let mut blanks = 0u32;
         for cell in cells {
-            if *cell != Cell::blank() && cell.byte() == b' ' && self.pen_of(*cell).is_plain() {
+            if *cell != Cell::blank() && cell.code() == BLANK && self.pen_of(*cell).is_plain() {
                 blanks = blanks.saturating_add(1);
             }
         }
@@ -62,7 +65,7 @@ impl Chooser<'_> {
 pub(crate) fn least_on_blanks(chooser: &Chooser<'_>, cells: &[Cell]) -> u32 {
     let mut characters = 0u32;
     for cell in cells {
-        characters = characters.wrapping_add(u32::from(cell.byte() != b' '));
+        characters = characters.wrapping_add(u32::from(cell.code() != BLANK));
     }
     if characters == 0 {
         return 0;
@@ -121,7 +124,7 @@ pub(crate) fn price_on_blanks(chooser: &Chooser<'_>, cells: &[Cell]) -> u32 {
         } else {
             let end = alike_after(cells, column);
             let pen = chooser.pen_of(cells[column]);
-            if cells[column].byte() == b' ' && pen.is_plain() {
+            if cells[column].code() == BLANK && pen.is_plain() {
                 stretches.add_blanks(end - column);
             } else {
                 stretches.add(pen, end - column);
@@ -156,7 +159,7 @@ fn alike_after(cells: &[Cell], column: usize) -> usize
     let first = cells[column];
     for after in column + 1..cells.len() {
         let cell = cells[after];
-        if !are_alike(first, cell) || (cell.byte() == b' ') != (first.byte() == b' ') {
+        if !are_alike(first, cell) || (cell.code() == BLANK) != (first.code() == BLANK) {
             return after;
         }
     }

@@ -1,7 +1,7 @@
 //! By how many rows a picture moved: rows that are wanted are looked for among those that are
 //! known. A choice affects nothing but the number of bytes of an update.
 
-use crate::blanks::is_blank;
+use crate::blanks::{BLANK, is_blank};
 use crate::rows::{RowChange, RowPrices, price_of_runs};
 use crate::runs::Run;
 use crate::ways::Chooser;
@@ -54,13 +54,13 @@ pub(crate) struct Distance {
     pub(crate) up: bool,
 }
 
-// A row that may be looked for, the first column in which it differs from what it showed, the byte
+// A row that may be looked for, the first column in which it differs from what it showed, the character
 // that is wanted there, and whether the row that comes was seen to be just what is wanted.
 #[derive(Clone, Copy)]
 struct Sample {
     row: u32,
     column: u32,
-    byte: u8,
+    code: u32,
     is_shown: bool,
 }
 
@@ -104,15 +104,15 @@ impl Samples {
     // Adds a row that differs from a column on, unless it is wanted blank.
     fn add(&mut self, chooser: &Chooser<'_>, row: u32, column: u32) -> Result<(), NoMemory> {
         let cells = chooser.cells(row);
-        let byte = byte_at(cells, column);
-        if byte == b' ' && is_blank(chooser, cells) {
+        let code = code_at(cells, column);
+        if code == BLANK && is_blank(chooser, cells) {
             return Ok(());
         }
         let is_shown = false;
         self.found.push(Sample {
             row,
             column,
-            byte,
+            code,
             is_shown,
         })?;
         Ok(())
@@ -247,20 +247,20 @@ impl Distance {
     }
 }
 
-// The byte of the cell in a column; a blank if there is none.
-fn byte_at(cells: &[Cell], column: u32) -> u8 {
+// The character of the cell in a column; a blank if there is none.
+fn code_at(cells: &[Cell], column: u32) -> u32 {
     match cells.get(column as usize) {
-        Some(cell) => cell.byte(),
-        None => b' ',
+        Some(cell) => cell.code(),
+        None => BLANK,
     }
 }
 
-// Whether looks are just what is wanted in a row; first the byte in one column is compared.
+// Whether looks are just what is wanted in a row; first the character in one column is compared.
 #[inline(always)]
 fn is_alike<P: RowPrices>(prices: &P, looks: &[Look], sample: &Sample) -> bool {
     let column = sample.column as usize;
     column < looks.len()
-        && looks[column].byte() == sample.byte
+        && u32::from(looks[column].byte()) == sample.code
         && prices.is_shown(sample.row, looks)
 }
 
