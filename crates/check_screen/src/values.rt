@@ -13,7 +13,8 @@ use scr_cells::{
 
 /// The lines `new_size R C`, `union A B`, `difference A B`, `contains A B`, `all_attributes`, `new_cell B A`, `paired B
 /// A P`, `cell_of CODE A P`, `new_look B A F G`, `blank_cell`, `blank_look` and `same_look B A F G B A F G`, where a
-/// look is a byte, attributes, a foreground and a background; and those about rows. Tells whether a line is one of them.
+/// look is a byte, attributes, a foreground and a background; and those about rows. Tells whether a line is one of
+/// them.
 pub fn answer_of_values(line: &mut Line<'_>) -> Result<bool, Trouble> {
     let (words, got) = (&mut line.words, &mut line.got);
     match line.name {

@@ -151,8 +151,8 @@ impl Cell {
         }
     }
 
-    // The cell with the character of a new one, if it has that of an old one. It is made by sums, which LLVM does for four
-    // cells at a time.
+    // The cell with the character of a new one, if it has that of an old one. It is made by sums, which LLVM does for
+    // four cells at a time.
     fn with_character_of(self, old: Cell, new: Cell) -> Cell
         requires { self.character ≡ old.character }
         ensures { result ≡ record self { character = new.character } }

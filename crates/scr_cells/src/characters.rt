@@ -68,8 +68,8 @@ AAAAAAACEEEEIIIIDNOOOOOxOUUUUYTsaaaaaaaceeeeiiiidnooooo/ouuuuyty";
 const LINES: &[u8] = b"--||--||--||++++++++++++++++++++++++++++++++++++++++++++++++++++\
 ++++++++++++--||-|+++++++++++++++++++++++++++++++/\\X-|-|-|-|-|-|";
 
-// What stands for a character above ASCII: that of the run that has it, if one has. It is called, and seldom, so that the
-// loops over characters of ASCII stay short.
+// What stands for a character above ASCII: that of the run that has it, if one has. It is called, and seldom, so that
+// the loops over characters of ASCII stay short.
 #[cold]
 #[inline(never)]
 #[tactic(auto, unfolding(crate::specs::Characters::likenesses, crate::specs::Characters::likeness_in))]

@@ -12,8 +12,8 @@ ghost use Rattle.scr_cells.specs.Differences.{IsFirstDifference, IsLastDifferenc
 use crate::{Cell, Look};
 use std::simd::prelude::*;
 
-/// The lowest place at which two rows of cells differ in character, attributes or colour pair; `None` if they are the same.
-/// The rows have one length.
+/// The lowest place at which two rows of cells differ in character, attributes or colour pair; `None` if they are the
+/// same. The rows have one length.
 pub fn first_difference(a: &[Cell], b: &[Cell]) -> Option<usize>
     requires { length a.now ≡ length b.now }
     ensures { IsFirstDifference a.now b.now result }
@@ -21,8 +21,8 @@ pub fn first_difference(a: &[Cell], b: &[Cell]) -> Option<usize>
     first_place(a, b)
 }
 
-/// The highest place at which two rows of cells differ in character, attributes or colour pair; `None` if they are the same.
-/// The rows have one length.
+/// The highest place at which two rows of cells differ in character, attributes or colour pair; `None` if they are the
+/// same. The rows have one length.
 pub fn last_difference(a: &[Cell], b: &[Cell]) -> Option<usize>
     requires { length a.now ≡ length b.now }
     ensures { IsLastDifference a.now b.now result }
@@ -30,8 +30,8 @@ pub fn last_difference(a: &[Cell], b: &[Cell]) -> Option<usize>
     last_place(a, b)
 }
 
-/// The lowest place at which two rows of looks differ in character, attributes or colours; `None` if they are the same. The
-/// rows have one length.
+/// The lowest place at which two rows of looks differ in character, attributes or colours; `None` if they are the same.
+/// The rows have one length.
 pub fn first_look_difference(a: &[Look], b: &[Look]) -> Option<usize>
     requires { length a.now ≡ length b.now }
     ensures { IsFirstDifference a.now b.now result }
@@ -39,8 +39,8 @@ pub fn first_look_difference(a: &[Look], b: &[Look]) -> Option<usize>
     first_place(a, b)
 }
 
-/// The highest place at which two rows of looks differ in character, attributes or colours; `None` if they are the same. The
-/// rows have one length.
+/// The highest place at which two rows of looks differ in character, attributes or colours; `None` if they are the
+/// same. The rows have one length.
 pub fn last_look_difference(a: &[Look], b: &[Look]) -> Option<usize>
     requires { length a.now ≡ length b.now }
     ensures { IsLastDifference a.now b.now result }

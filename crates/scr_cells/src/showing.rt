@@ -1,7 +1,7 @@
 //! Which places of a row surely show, or surely do not show, what is seen of their cells.
 //!
-//! They are looked at eight at a time, and where one of eight ends a count, those before it are counted. Fewer than eight
-//! that are left are for the caller to look at, place by place.
+//! They are looked at eight at a time, and where one of eight ends a count, those before it are counted. Fewer than
+//! eight that are left are for the caller to look at, place by place.
 ghost use Rattle.std.specs.Prelude.{ℕ, ◌≡◌, ◌≢◌, ◌+◌, ◌<◌, ◌≤◌, All, IfSome, bit_and, length, slice_index_or};
 ghost use Rattle.scr_cells.specs.CellViews.{blank_cell};
 ghost use Rattle.scr_cells.specs.LookViews.{IsLook};
@@ -15,9 +15,9 @@ use std::simd::prelude::*;
 /// A count of places from the left, each of which shows what is seen of its cell on a terminal that shows these
 /// attributes, whatever the colours of its pairs are.
 ///
-/// The places are looked at eight at a time, and fewer than eight that are left are not looked at. The count ends, at the
-/// latest, before a cell with a pair, before one with a character above ASCII, and before one with an attribute if not
-/// every attribute is shown, so a caller goes on from there place by place. The rows have one length.
+/// The places are looked at eight at a time, and fewer than eight that are left are not looked at. The count ends, at
+/// the latest, before a cell with a pair, before one with a character above ASCII, and before one with an attribute if
+/// not every attribute is shown, so a caller goes on from there place by place. The rows have one length.
 pub fn shown_before(looks: &[Look], cells: &[Cell], shown: Attrs) -> usize
     requires { length looks.now ≡ length cells.now }
     ensures inside { result ≤ length looks.now }
@@ -46,8 +46,8 @@ fn hidden_bits(shown: Attrs) -> u32
     if shows_all { 0xFF80_0000 } else { 0xFFFF_0000 }
 }
 
-// What holds for every look holds for each of these. The loop is for the proof alone, which learns what holds for a look
-// from a call on it. It does nothing, and LLVM leaves it out.
+// What holds for every look holds for each of these. The loop is for the proof alone, which learns what holds for a
+// look from a call on it. It does nothing, and LLVM leaves it out.
 fn each_is_look(looks: &[Look])
     ensures { All IsLook looks.now }
 {
@@ -56,8 +56,8 @@ fn each_is_look(looks: &[Look])
     }
 }
 
-// A number for each of eight places: 0 where the two numbers are the same and have none of some bits. These are numbers and
-// no mask, since one test of all their bits tells whether each is 0. The mask is made where a count ends.
+// A number for each of eight places: 0 where the two numbers are the same and have none of some bits. These are numbers
+// and no mask, since one test of all their bits tells whether each is 0. The mask is made where a count ends.
 fn unless_same(a: u32x8, b: u32x8, hidden: u32) -> u32x8
     requires a { length a ≡ 8 }
     requires b { length b ≡ 8 }
@@ -128,8 +128,8 @@ pub fn alike_before(cells: &[Cell]) -> usize
     at
 }
 
-// The number of the first cell less its character, if each cell whose number is above that by a character of ASCII alone
-// has the number of its look.
+// The number of the first cell less its character, if each cell whose number is above that by a character of ASCII
+// alone has the number of its look.
 fn base_of(cells: &[Cell], shown: Attrs) -> Option<u32>
     ensures { IfSome result (HasBase shown.0 cells.now) }
 {
@@ -150,8 +150,8 @@ fn first_number(cells: &[Cell]) -> Option<u32>
     Some(cells[0].packed())
 }
 
-// A number for each of eight places: 0 where the two numbers differ and the second is above a base by a character of ASCII
-// alone.
+// A number for each of eight places: 0 where the two numbers differ and the second is above a base by a character of
+// ASCII alone.
 fn unless_unlike(a: u32x8, b: u32x8, base: u32) -> u32x8
     requires a { length a ≡ 8 }
     requires b { length b ≡ 8 }

@@ -1,8 +1,8 @@
 //! Calls that add bytes: a byte, a text, an inserted byte, and lines of one byte.
 //!
-//! The definitions are in `specs/Calls/Adding.antt`; what is drawn for them is a matter of `surfaces`. The characters of
-//! a text are written a stretch at a time, as far as a line takes them before its last column. What every stretch needs
-//! is inlined, and what ends a line or is rare is called.
+//! The definitions are in `specs/Calls/Adding.antt`; what is drawn for them is a matter of `surfaces`. The characters
+//! of a text are written a stretch at a time, as far as a line takes them before its last column. What every stretch
+//! needs is inlined, and what ends a line or is rare is called.
 ghost use Rattle.std.specs.Prelude.{◌≡◌, ◌+◌, ◌<◌, ◌≤◌, ◌⊎◌, length, take, drop, leb, min, false};
 ghost use Rattle.std.specs.List.{list_any};
 ghost use Rattle.scr_cells.specs.CellViews.{IsPair};
