@@ -3,7 +3,7 @@ use Rattle.std.proofs.Common.{◌≡◌, ◌≢◌, ◌⊎◌, inl, inr, ℕ, ze
 use Rattle.std.proofs.lemmas.Bool.{eqb-true}
 use Rattle.std.proofs.lemmas.Bool.Decides.{nat_tests}
 use Rattle.std.proofs.lemmas.List.{get_or-map, length-map}
-use Rattle.std.proofs.lemmas.Nat.{le_or_l, le_or_r}
+use Rattle.std.proofs.lemmas.Nat.{and_assoc, and_le_l, le_or_l, le_or_r}
 use Rattle.std.proofs.lemmas.Nat.Bits.{and_high, bit_at-trailing_ones, bit_at_above}
 use Rattle.std.proofs.Math.Dec.{eqb}
 use Rattle.std.proofs.lemmas.Simd.{bit_mask_l, Each1-get_or, get_or-sel_l, get_or-zip2, length-sel_l, length-zip2, mask_l-lt, mask_l-mod}
@@ -130,11 +130,23 @@ kept_lane bits base xs k eight near = lane_with less (zip2 bit_and xs (repeated 
 
 -- ---- numbers some of whose bits are others
 
-above_by_seven_bits : (n base : ℕ) → n < 4294967296 → base < 4294967296 → less (bit_and n 4294967168) base ≡ 0 → (base ≤ n) × (n < base + 128)
-above_by_seven_bits n base few base_few none = let high : bit_and n 4294967168 ≡ n / 128 % 33554432 * 128 = and_high n 25 7 in (omega (arith, few, base_few, none, high), omega (arith, few, base_few, none, high))
-
 above_by_character : (n base : ℕ) → n < 4294967296 → base < 4294967296 → less (bit_and n 4294901760) base ≡ 0 → (base ≤ n) × (n < base + 65536)
 above_by_character n base few base_few none = let high : bit_and n 4294901760 ≡ n / 65536 % 65536 * 65536 = and_high n 16 16 in (omega (arith, few, base_few, none, high), omega (arith, few, base_few, none, high))
+
+pub kept_above_character : (n base : ℕ) → n < 4294967296 → bit_and n 4294901760 ≡ base → (base ≤ n) × (n < base + 65536)
+kept_above_character n base few is = let high : bit_and n 4294901760 ≡ n / 65536 % 65536 * 65536 = and_high n 16 16 in (omega (arith, few, is, high), omega (arith, few, is, high))
+
+pub kept_above_seven_bits : (n base : ℕ) → n < 4294967296 → bit_and n 4294967168 ≡ base → (base ≤ n) × (n < base + 128)
+kept_above_seven_bits n base few is = let high : bit_and n 4294967168 ≡ n / 128 % 33554432 * 128 = and_high n 25 7 in (omega (arith, few, is, high), omega (arith, few, is, high))
+
+-- bits that are among others, of which a number has none
+pub none_of_part : (n bits part : ℕ) → bit_and bits part ≡ part → bit_and n bits ≡ 0 → bit_and n part ≡ 0
+none_of_part n bits part among none =
+    let left : bit_and 0 part ≡ 0 = omega (arith, and_le_l 0 part) in
+    ap (bit_and n) (sym among) ∙ sym (and_assoc part n bits) ∙ ap (λ k. bit_and k part) none ∙ left
+
+pub below_ascii : (n : ℕ) → bit_and n 65408 ≡ 0 → n % 65536 < 128
+below_ascii n none = let high : bit_and n 65408 ≡ n / 128 % 512 * 128 = and_high n 9 7 in omega (arith, none, high)
 
 pub below_pairs : (n : ℕ) → n < 4294967296 → bit_and n 4286578688 ≡ 0 → n < 8388608
 below_pairs n few none = let high : bit_and n 4286578688 ≡ n / 8388608 % 512 * 8388608 = and_high n 9 23 in omega (arith, few, none, high)
@@ -149,16 +161,16 @@ alike_lanes xs base k eight each few near none = above_by_character (get_or xs k
 pub eight_alike : (xs : List ℕ) (base : ℕ) → length xs ≡ 8 → length (zip2 less (zip2 bit_and xs (repeated 4294901760)) (repeated base)) ≡ 8
 eight_alike xs base eight = eight_kept 4294901760 base xs eight
 
-abbrev pub unlike : List ℕ → List ℕ → ℕ → List ℕ
-unlike xs ys base = sel_l (map (top 31) (equal xs ys)) (repeated 4294967295) (zip2 less (zip2 bit_and ys (repeated 4294967168)) (repeated base))
+abbrev pub unlike : List ℕ → List ℕ → ℕ → ℕ → List ℕ
+unlike xs ys bits base = sel_l (map (top 31) (equal xs ys)) (repeated 4294967295) (zip2 less (zip2 bit_and ys (repeated bits)) (repeated base))
 
 eight_tests : (xs ys : List ℕ) → length xs ≡ 8 → length ys ≡ 8 → length (map (top 31) (equal xs ys)) ≡ 8
 eight_tests xs ys one other = length-map (equal xs ys) (top 31) ∙ eight_of (λ x y. cond (eqb x y) 4294967295 0) xs ys one other
 
-pub eight_unlike : (xs ys : List ℕ) (base : ℕ) → length xs ≡ 8 → length ys ≡ 8 → length (unlike xs ys base) ≡ 8
-eight_unlike xs ys base one other =
+pub eight_unlike : (xs ys : List ℕ) (bits base : ℕ) → length xs ≡ 8 → length ys ≡ 8 → length (unlike xs ys bits base) ≡ 8
+eight_unlike xs ys bits base one other =
     let tests = eight_tests xs ys one other in
-    length-sel_l (map (top 31) (equal xs ys)) (repeated 4294967295) (zip2 less (zip2 bit_and ys (repeated 4294967168)) (repeated base)) tests (tests ∙ sym (eight_kept 4294967168 base ys other)) ∙ tests
+    length-sel_l (map (top 31) (equal xs ys)) (repeated 4294967295) (zip2 less (zip2 bit_and ys (repeated bits)) (repeated base)) tests (tests ∙ sym (eight_kept bits base ys other)) ∙ tests
 
 unlike_by : (a b n : ℕ) (t : Bool) → t ≡ top 31 (cond (eqb a b) 4294967295 0) → cond t 4294967295 n ≡ 0 → (a ≢ b) × (n ≡ 0)
 unlike_by a b n true is none = absurd (let z : ⊥ = omega (arith, none) in z)
@@ -168,17 +180,18 @@ unlike_by a b n false is none = (differ (eqb a b) refl is, none)
     differ true same e = absurd (let z : ⊥ = cc in z)
     differ false other e = λ same. let unequal : nat_eq a b ≡ false = other in grind (arith, nat_tests)
 
-pub unlike_lanes : (xs ys : List ℕ) (base k : ℕ) → length xs ≡ 8 → length ys ≡ 8 → Each1 (Fits w32) ys → base < 4294967296 → k < 8 → get_or (unlike xs ys base) k 0 ≡ 0
-    → (get_or xs k 0 ≢ get_or ys k 0) × (base ≤ get_or ys k 0) × (get_or ys k 0 < base + 128)
-unlike_lanes xs ys base k one other each few near none =
+pub unlike_lanes : (xs ys : List ℕ) (bits base k : ℕ) → length xs ≡ 8 → length ys ≡ 8 → Each1 (Fits w32) ys → base < 4294967296 → k < 8 → get_or (unlike xs ys bits base) k 0 ≡ 0
+    → (get_or xs k 0 ≢ get_or ys k 0) × (get_or ys k 0 < 4294967296) × (bit_and (get_or ys k 0) bits ≡ base)
+unlike_lanes xs ys bits base k one other each few near none =
     let x : ℕ = get_or xs k 0 in
     let y : ℕ = get_or ys k 0 in
     let tests = eight_tests xs ys one other in
     let lanes = eight_of (λ x y. cond (eqb x y) 4294967295 0) xs ys one other in
-    let kept : List ℕ = zip2 less (zip2 bit_and ys (repeated 4294967168)) (repeated base) in
-    let lane : get_or (unlike xs ys base) k 0 ≡ cond (get_or (map (top 31) (equal xs ys)) k false) (get_or (repeated 4294967295) k 0) (get_or kept k 0) =
-    get_or-sel_l (map (top 31) (equal xs ys)) (repeated 4294967295) kept k 0 (omega (arith, tests, near)) near (omega (arith, eight_kept 4294967168 base ys other, near)) in
+    let kept : List ℕ = zip2 less (zip2 bit_and ys (repeated bits)) (repeated base) in
+    let lane : get_or (unlike xs ys bits base) k 0 ≡ cond (get_or (map (top 31) (equal xs ys)) k false) (get_or (repeated 4294967295) k 0) (get_or kept k 0) =
+    get_or-sel_l (map (top 31) (equal xs ys)) (repeated 4294967295) kept k 0 (omega (arith, tests, near)) near (omega (arith, eight_kept bits base ys other, near)) in
     let test : get_or (map (top 31) (equal xs ys)) k false ≡ top 31 (cond (eqb x y) 4294967295 0) = get_or-map (top 31) (equal xs ys) k 0 false (omega (arith, lanes, near)) ∙ ap (top 31) (lane_of (λ x y. cond (eqb x y) 4294967295 0) xs ys k one other near) in
     let is = unlike_by x y (get_or kept k 0) (get_or (map (top 31) (equal xs ys)) k false) test (ap (λ n. cond (get_or (map (top 31) (equal xs ys)) k false) n (get_or kept k 0)) (sym (repeated_is 4294967295 k near)) ∙ sym lane ∙ none) in
-    let above = above_by_seven_bits y base (fits ys k other near each) few (sym (kept_lane 4294967168 base ys k other near) ∙ is.1) in
-    (is.0, above.0, above.1)
+    let y_fits : y < 4294967296 = fits ys k other near each in
+    let few_kept : bit_and y bits < 4294967296 = omega (arith, y_fits, and_le_l y bits) in
+    (is.0, y_fits, less_is_zero (bit_and y bits) base few_kept few (sym (kept_lane bits base ys k other near) ∙ is.1))

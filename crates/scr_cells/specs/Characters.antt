@@ -8,6 +8,8 @@ use Rattle.ucd_category.specs.GeneralCategory.{general_category}
 use Rattle.ucd_category.specs.declared.GeneralCategory.{GeneralCategory}
 use Rattle.ucd_category.specs.declared.GeneralCategory.TheVariants.{Control, Format, LineSeparator, ParagraphSeparator, Surrogate, Unassigned}
 use Rattle.unicode_width.specs.Width.{char_width}
+use Rattle.scr_cells.specs.declared.charsets.Charset.{Charset}
+use Rattle.scr_cells.specs.declared.charsets.Charset.TheVariants.{Ascii, Utf8}
 
 -- A character of ASCII: the blank, or a graphic character.
 abbrev pub IsAscii : ℕ → Type 0
@@ -79,8 +81,19 @@ likeness_in (run ∷ runs) code =
 unfoldable pub stand_in : ℕ → ℕ
 stand_in code = if nat_lt code 128 then code else likeness_in likenesses code
 
+-- The charset is UTF-8.
+abbrev pub is_utf8 : Charset → Bool
+is_utf8 Ascii = false
+is_utf8 Utf8 = true
+
+-- What is seen of a character on a terminal with this charset: itself in UTF-8, and its stand-in in ASCII.
+unfoldable pub seen_character : Charset → ℕ → ℕ
+seen_character Ascii code = stand_in code
+seen_character Utf8 code = code
+
 -- Laws of characters: those of ASCII are the ones below 128; all are scalar values that fit 16 bits; each below 128
--- stands for itself, and a character of ASCII for each.
+-- stands for itself, a character of ASCII for each, and a byte below 128 for any number. What is seen of a character is one, and of those below 128 it is
+-- themselves; in ASCII it is one of ASCII.
 pub record CharacterLaws : Type 0 where
   pub ascii : (code : ℕ) → IsAscii code → IsCharacter code
   pub below : (code : ℕ) → code < 128 → IsCharacter code → IsAscii code
@@ -88,3 +101,9 @@ pub record CharacterLaws : Type 0 where
   pub few : (code : ℕ) → IsCharacter code → code < 65536
   pub itself : (code : ℕ) → code < 128 → stand_in code ≡ code
   pub stand_in : (code : ℕ) → IsCharacter code → IsAscii (stand_in code)
+  pub low : (code : ℕ) → seen_character Ascii code < 128
+  pub seen : (charset : Charset) (code : ℕ) → IsCharacter code → IsCharacter (seen_character charset code)
+  pub seen_itself : (charset : Charset) (code : ℕ) → code < 128 → seen_character charset code ≡ code
+  pub seen_ascii : (code : ℕ) → IsCharacter code → IsAscii (seen_character Ascii code)
+  pub seen_utf8 : (code : ℕ) → seen_character Utf8 code ≡ code
+  pub beyond : (code : ℕ) → IsCharacter code → 128 ≤ code → is_beyond_ascii code ≡ true

@@ -1,7 +1,8 @@
 -- What a terminal shows in one place. ECMA-48, 'graphic rendition'.
 use Rattle.std.specs.Prelude.{ℕ, Bool, Option, None, bit_and, List, map, if◌then◌else◌}
 use Rattle.scr_cells.specs.CellViews.{CellView}
-use Rattle.scr_cells.specs.Characters.{IsAscii, stand_in}
+use Rattle.scr_cells.specs.Characters.{IsCharacter, seen_character}
+use Rattle.scr_cells.specs.declared.charsets.Charset.{Charset}
 use Rattle.scr_cells.specs.Grids.{grid_of}
 use Rattle.scr_cells.specs.PenViews.{PenView, IsPen, negative_pen, pair_colours, plain_pen}
 
@@ -10,9 +11,9 @@ pub record LookView : Type 0 where
   pub character : ℕ
   pub pen : PenView
 
--- A valid look. Terminals show ASCII alone.
+-- A valid look.
 pub record IsLook (look : LookView) : Type 0 where
-  pub character : IsAscii look.character
+  pub character : IsCharacter look.character
   pub pen : IsPen look.pen
 
 -- A blank: character 32 without attributes, in default colours.
@@ -32,9 +33,12 @@ seen_pen shown colours pairs cell = record {
   background = if colours then (pair_colours pairs cell.pair).1 else None;
 }
 
--- What is seen of a cell there: the stand-in of its character, with that pen.
-abbrev pub seen : ℕ → Bool → List (Option ℕ × Option ℕ) → CellView → LookView
-seen shown colours pairs cell = record { character = stand_in cell.character; pen = seen_pen shown colours pairs cell }
+-- What is seen of a cell there, if the terminal has this charset: its character or what stands for it, with that pen.
+abbrev pub seen : Charset → ℕ → Bool → List (Option ℕ × Option ℕ) → CellView → LookView
+seen charset shown colours pairs cell = record {
+  character = seen_character charset cell.character;
+  pen = seen_pen shown colours pairs cell;
+}
 
 -- The negative of a look: reverse in place of standout.
 abbrev pub negative : LookView → LookView

@@ -2,15 +2,18 @@
 use Rattle.std.specs.Prelude.{ℕ, Bool, ◌≡◌, ◌≢◌, List, Option, slice_index_or}
 use Rattle.scr_cells.specs.CellViews.{CellView, blank_cell}
 use Rattle.scr_cells.specs.LookViews.{LookView, blank, seen}
+use Rattle.scr_cells.specs.declared.charsets.Charset.{Charset}
 
--- The place shows what is seen of its cell on a terminal that shows these attributes, with colours or without, whatever
--- colours the pairs have.
-abbrev pub IsSeenAt : ℕ → List LookView → List CellView → ℕ → Type 0
-IsSeenAt shown looks cells place = (colours : Bool) (pairs : List (Option ℕ × Option ℕ)) → slice_index_or looks place blank ≡ seen shown colours pairs (slice_index_or cells place blank_cell)
+-- The place shows what is seen of its cell on a terminal with this charset that shows these attributes, with colours or
+-- without, whatever colours the pairs have.
+abbrev pub IsSeenAt : Charset → ℕ → List LookView → List CellView → ℕ → Type 0
+IsSeenAt charset shown looks cells place =
+    (colours : Bool) (pairs : List (Option ℕ × Option ℕ)) → slice_index_or looks place blank ≡ seen charset shown colours pairs (slice_index_or cells place blank_cell)
 
 -- The place shows something else.
-abbrev pub IsUnseenAt : ℕ → List LookView → List CellView → ℕ → Type 0
-IsUnseenAt shown looks cells place = (colours : Bool) (pairs : List (Option ℕ × Option ℕ)) → slice_index_or looks place blank ≢ seen shown colours pairs (slice_index_or cells place blank_cell)
+abbrev pub IsUnseenAt : Charset → ℕ → List LookView → List CellView → ℕ → Type 0
+IsUnseenAt charset shown looks cells place =
+    (colours : Bool) (pairs : List (Option ℕ × Option ℕ)) → slice_index_or looks place blank ≢ seen charset shown colours pairs (slice_index_or cells place blank_cell)
 
 -- The cell in this place has the same attributes and pair as another.
 pub record HasRendition (first : CellView) (cells : List CellView) (place : ℕ) : Type 0 where

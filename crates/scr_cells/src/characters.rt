@@ -23,9 +23,9 @@ pub fn is_character(character: char) -> bool
     (32..=126).contains(&code) || is_beyond_ascii(character)
 }
 
-// Whether this is a character above ASCII.
+/// Whether this is a character above ASCII.
 #[tactic(auto, unfolding(crate::specs::Characters::is_beyond_ascii))]
-fn is_beyond_ascii(character: char) -> bool
+pub fn is_beyond_ascii(character: char) -> bool
     ensures { result ≡ is_beyond_ascii character }
 {
     let code = u32::from(character);

@@ -12,7 +12,7 @@ pub fn grid_laws<T: Copy>()
 {}
 
 /// The laws of characters: those below 128 are those of ASCII, each fits 16 bits and is a `char`, and a character of
-/// ASCII stands for each.
+/// ASCII stands for each. What is seen of a character is one, and of those below 128 it is themselves.
 pub fn character_laws()
     ensures { CharacterLaws }
 {}

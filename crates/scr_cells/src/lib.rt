@@ -8,6 +8,7 @@
 mod attributes;
 mod cells;
 mod characters;
+mod charsets;
 mod differences;
 mod grids;
 mod laws;
@@ -20,7 +21,8 @@ mod sizes;
 
 pub use attributes::Attrs;
 pub use cells::Cell;
-pub use characters::{is_ascii, is_character};
+pub use characters::{is_ascii, is_beyond_ascii, is_character};
+pub use charsets::Charset;
 pub use differences::{
     first_difference, first_look_difference, last_difference, last_look_difference, look_numbers,
 };

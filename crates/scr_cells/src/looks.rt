@@ -3,16 +3,17 @@ ghost use Rattle.std.specs.Prelude.{◌≡◌, ◌↔◌, ◌==◌, IsSome, IfSo
 ghost use Rattle.std.proofs.Common.{rules};
 ghost use Rattle.std.specs.Ordering.{eq_of_both, on};
 ghost use Rattle.std.specs.Cmp.Rules.{comparing};
-ghost use Rattle.scr_cells.specs.Characters.{IsAscii};
+ghost use Rattle.scr_cells.specs.Characters.{IsAscii, IsCharacter, stand_in};
 ghost use Rattle.scr_cells.specs.LookViews.{IsLook, blank};
 ghost use Rattle.scr_cells.specs.PenViews.{IsColour, pen_eq};
 
+use crate::characters::stand_in;
 use crate::differences::Packed;
-use crate::{Attrs, Pen, is_ascii};
+use crate::{Attrs, Pen, is_ascii, is_character};
 use std::marker::Model;
 
-/// What a terminal shows in one place: a character of ASCII, 32 to 126, and the attributes and the colours that it is
-/// shown with (ECMA-48, 'graphic rendition').
+/// What a terminal shows in one place: a character (`is_character`), and the attributes and the colours that it is shown
+/// with (ECMA-48, 'graphic rendition').
 ///
 /// One `u32`: the character in bits 0 to 15, the rest as in a `Pen`.
 #[derive(Clone, Copy, Debug)]
@@ -63,19 +64,51 @@ impl Look {
         })
     }
 
-    /// A blank: byte 32 without attributes, in default colours.
+    /// The look of a character that is written with a pen; `None` if the `char` is no character (`is_character`).
+    pub fn of(character: char, pen: Pen) -> Option<Look>
+        ensures character { IsSome result ↔ IsCharacter character }
+        ensures holds { IfSome result (λ look. look ≡ record { character = character; pen = pen }) }
+    {
+        if !is_character(character) {
+            return None;
+        }
+        Some(Look {
+            packed: pen.packed + u32::from(character),
+        })
+    }
+
+    /// A blank: character 32 without attributes, in default colours.
     pub fn blank() -> Look
         ensures { result ≡ blank }
     {
         Look { packed: 32 }
     }
 
-    /// The character, a byte 32 to 126.
-    pub fn byte(self) -> u8
+    /// The character.
+    pub fn character(self) -> char
         ensures value { result ≡ self.character }
         ensures look { IsLook self }
     {
-        (self.packed % 65536) as u8
+        // There is one, since no character of a look is a surrogate.
+        char::from_u32(self.code()).unwrap_or(' ')
+    }
+
+    /// The code of the character.
+    pub fn code(self) -> u32
+        ensures value { result ≡ self.character }
+        ensures look { IsLook self }
+    {
+        self.packed % 65536
+    }
+
+    /// The stand-in of the character: the byte, 32 to 126, that is shown for it where the terminal has ASCII alone. A
+    /// character of ASCII stands for itself.
+    pub fn byte(self) -> u8
+        ensures value { result ≡ stand_in self.character }
+        ensures ascii { IsAscii result }
+        ensures look { IsLook self }
+    {
+        stand_in(self.code())
     }
 
     /// What the character is written with.

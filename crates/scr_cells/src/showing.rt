@@ -2,29 +2,27 @@
 //!
 //! They are looked at eight at a time, and where one of eight ends a count, those before it are counted. Fewer than
 //! eight that are left are for the caller to look at, place by place.
-ghost use Rattle.std.specs.Prelude.{ℕ, ◌≡◌, ◌≢◌, ◌+◌, ◌<◌, ◌≤◌, All, IfSome, bit_and, length, slice_index_or};
+ghost use Rattle.std.specs.Prelude.{ℕ, ◌≡◌, ◌≢◌, ◌+◌, ◌<◌, ◌≤◌, IfSome, bit_and, length, slice_index_or};
 ghost use Rattle.scr_cells.specs.CellViews.{blank_cell};
-ghost use Rattle.scr_cells.specs.LookViews.{IsLook};
 ghost use Rattle.scr_cells.specs.Showing.{HasRendition, IsSeenAt, IsUnseenAt};
-ghost use Rattle.scr_cells.specs.Code.Numbers.{HasBase, HasLimit, cell_of};
+ghost use Rattle.scr_cells.specs.Code.Numbers.{HasBase, HasLimit, KeepsRendition, cell_of};
 
 use crate::differences::{Packed, eight};
-use crate::{Attrs, Cell, Look};
+use crate::{Attrs, Cell, Charset, Look};
 use std::simd::prelude::*;
 
-/// A count of places from the left, each of which shows what is seen of its cell on a terminal that shows these
-/// attributes, whatever the colours of its pairs are.
+/// A count of places from the left, each of which shows what is seen of its cell on a terminal with this charset that
+/// shows these attributes, whatever the colours of its pairs are.
 ///
 /// The places are looked at eight at a time, and fewer than eight that are left are not looked at. The count ends, at
-/// the latest, before a cell with a pair, before one with a character above ASCII, and before one with an attribute if
-/// not every attribute is shown, so a caller goes on from there place by place. The rows have one length.
-pub fn shown_before(looks: &[Look], cells: &[Cell], shown: Attrs) -> usize
+/// the latest, before a cell with a pair, before one with an attribute if not every attribute is shown, and in ASCII
+/// before one with a character above it, so a caller goes on from there place by place. The rows have one length.
+pub fn shown_before(looks: &[Look], cells: &[Cell], charset: Charset, shown: Attrs) -> usize
     requires { length looks.now ≡ length cells.now }
     ensures inside { result ≤ length looks.now }
-    ensures same { (i : ℕ) → i < result → IsSeenAt shown.0 looks.now cells.now i }
+    ensures same { (i : ℕ) → i < result → IsSeenAt charset shown.0 looks.now cells.now i }
 {
-    each_is_look(looks);
-    let hidden = hidden_bits(shown);
+    let hidden = hidden_bits(charset, shown);
     let whole = looks.len() / 8 * 8;
     let mut at = 0;
     while at < whole {
@@ -37,22 +35,27 @@ pub fn shown_before(looks: &[Look], cells: &[Cell], shown: Attrs) -> usize
     at
 }
 
-// Bits of a cell's number, none of which is set if it has no pair, and only attributes that are shown.
-#[tactic(auto, using(crate::proofs::ShowingLaws::limit_of_all, crate::proofs::ShowingLaws::limit_of_none))]
-fn hidden_bits(shown: Attrs) -> u32
-    ensures { HasLimit shown.0 result }
+// Bits of a cell's number, none of which is set if it has no pair, only attributes that are shown, and a character that
+// is seen as it is.
+#[tactic(auto, using(crate::proofs::ShowingLaws::limit_of_all, crate::proofs::ShowingLaws::limit_of_none, crate::proofs::ShowingLaws::limit_of_all_ascii, crate::proofs::ShowingLaws::limit_of_no_ascii))]
+fn hidden_bits(charset: Charset, shown: Attrs) -> u32
+    ensures { HasLimit charset shown.0 result }
 {
     let shows_all = shown.0 == 127;
-    if shows_all { 0xFF80_0000 } else { 0xFFFF_0000 }
+    match charset {
+        Charset::Ascii => { if shows_all { 0xFF80_FF80 } else { 0xFFFF_FF80 } }
+        Charset::Utf8 => { if shows_all { 0xFF80_0000 } else { 0xFFFF_0000 } }
+    }
 }
 
-// What holds for every look holds for each of these. The loop is for the proof alone, which learns what holds for a
-// look from a call on it. It does nothing, and LLVM leaves it out.
-fn each_is_look(looks: &[Look])
-    ensures { All IsLook looks.now }
+// Bits of a cell's number that are those of its attributes and its pair if its character is seen as it is.
+#[tactic(auto, using(crate::proofs::ShowingLaws::keeps_in_ascii, crate::proofs::ShowingLaws::keeps_in_utf8))]
+fn kept_bits(charset: Charset) -> u32
+    ensures { KeepsRendition charset result }
 {
-    for look in looks {
-        let _byte = look.byte();
+    match charset {
+        Charset::Ascii => 0xFFFF_FF80,
+        Charset::Utf8 => 0xFFFF_0000,
     }
 }
 
@@ -79,25 +82,27 @@ fn zeros_from_left(numbers: u32x8) -> usize
         .trailing_ones() as usize
 }
 
-/// A count of places from the left, none of which shows what is seen of its cell on a terminal that shows these
-/// attributes, whatever the colours of its pairs are. Their cells have the attributes of the first cell, and no pair.
+/// A count of places from the left, none of which shows what is seen of its cell on a terminal with this charset that
+/// shows these attributes, whatever the colours of its pairs are. Their cells have the attributes of the first cell, and
+/// no pair.
 ///
 /// The places are looked at eight at a time. The count is 0 if the first cell has a pair, or an attribute if not every
-/// attribute is shown, and it ends before a cell with a character above ASCII, whose stand-in a look may show. A caller
-/// goes on from there place by place. The rows have one length.
-pub fn unshown_before(looks: &[Look], cells: &[Cell], shown: Attrs) -> usize
+/// attribute is shown, and in ASCII it ends before a cell with a character above it, whose stand-in a look may show. A
+/// caller goes on from there place by place. The rows have one length.
+pub fn unshown_before(looks: &[Look], cells: &[Cell], charset: Charset, shown: Attrs) -> usize
     requires { length looks.now ≡ length cells.now }
     ensures inside { result ≤ length looks.now }
-    ensures unseen { (i : ℕ) → i < result → IsUnseenAt shown.0 looks.now cells.now i }
+    ensures unseen { (i : ℕ) → i < result → IsUnseenAt charset shown.0 looks.now cells.now i }
     ensures alike { (i : ℕ) → i < result → HasRendition (slice_index_or cells.now 0 blank_cell) cells.now i }
 {
     let Some(base) = base_of(cells, shown) else {
         return 0;
     };
+    let kept = kept_bits(charset);
     let whole = looks.len() / 8 * 8;
     let mut at = 0;
     while at < whole {
-        let others = unless_unlike(eight(looks, at), eight(cells, at), base);
+        let others = unless_unlike(eight(looks, at), eight(cells, at), kept, base);
         if others.reduce_or() != 0 {
             return at + zeros_from_left(others);
         }
@@ -128,13 +133,13 @@ pub fn alike_before(cells: &[Cell]) -> usize
     at
 }
 
-// The number of the first cell less its character, if each cell whose number is above that by a character of ASCII
-// alone has the number of its look.
+// The number of the first cell less its character, if each cell whose number is above that by a character alone has the
+// number of its look where that character is seen as it is.
 fn base_of(cells: &[Cell], shown: Attrs) -> Option<u32>
     ensures { IfSome result (HasBase shown.0 cells.now) }
 {
     let base = first_number(cells)? / 65536 * 65536;
-    if base & hidden_bits(shown) != 0 {
+    if base & hidden_bits(Charset::Utf8, shown) != 0 {
         return None;
     }
     Some(base)
@@ -150,17 +155,16 @@ fn first_number(cells: &[Cell]) -> Option<u32>
     Some(cells[0].packed())
 }
 
-// A number for each of eight places: 0 where the two numbers differ and the second is above a base by a character of
-// ASCII alone.
-fn unless_unlike(a: u32x8, b: u32x8, base: u32) -> u32x8
+// A number for each of eight places: 0 where the two numbers differ and these bits of the second are a base.
+fn unless_unlike(a: u32x8, b: u32x8, kept: u32, base: u32) -> u32x8
     requires a { length a ≡ 8 }
     requires b { length b ≡ 8 }
     ensures eight { length result ≡ 8 }
-    ensures zero { (k : ℕ) → k < 8 → slice_index_or result k 0 ≡ 0 → (slice_index_or a k 0 ≢ slice_index_or b k 0) × (base ≤ slice_index_or b k 0) × (slice_index_or b k 0 < base + 128) }
+    ensures zero { (k : ℕ) → k < 8 → slice_index_or result k 0 ≡ 0 → (slice_index_or a k 0 ≢ slice_index_or b k 0) × (slice_index_or b k 0 < 4294967296) × (bit_and (slice_index_or b k 0) kept ≡ base) }
 {
     a.simd_eq(b).select(
         u32x8::splat(u32::MAX),
-        (b & u32x8::splat(0xFFFF_FF80)) - u32x8::splat(base),
+        (b & u32x8::splat(kept)) - u32x8::splat(base),
     )
 }
 

@@ -4,7 +4,7 @@ use Rattle.scr_cells.proofs.showing.shown_before.Given as goal
 
 -- the places as far as the loop has come are shown
 abbrev pub invariant-loop-at : goal.invariant-loop-at
-invariant-loop-at l = record { inside : l.at ≤ length l.looks; eights : l.at % 8 ≡ 0; same : (i : ℕ) → i < l.at → IsSeenAt l.fn.shown.0 l.looks l.cells i }
+invariant-loop-at l = record { inside : l.at ≤ length l.looks; eights : l.at % 8 ≡ 0; same : (i : ℕ) → i < l.at → IsSeenAt l.fn.charset l.fn.shown.0 l.looks l.cells i }
 
 abbrev pub decreases-loop-at : goal.decreases-loop-at
 decreases-loop-at l = length l.looks - l.at

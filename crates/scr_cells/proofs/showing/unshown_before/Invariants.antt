@@ -8,7 +8,7 @@ abbrev pub invariant-loop-at : goal.invariant-loop-at
 invariant-loop-at l = record {
   inside : l.at ≤ length l.looks;
   eights : l.at % 8 ≡ 0;
-  unseen : (i : ℕ) → i < l.at → IsUnseenAt l.fn.shown.0 l.looks l.cells i;
+  unseen : (i : ℕ) → i < l.at → IsUnseenAt l.fn.charset l.fn.shown.0 l.looks l.cells i;
   alike : (i : ℕ) → i < l.at → HasRendition (get_or l.cells 0 blank_cell) l.cells i;
 }
 
