@@ -1,5 +1,5 @@
 -- What an admission finds and makes.
-use Rattle.std.proofs.Common.{◌≡◌, ◌≢◌, ◌∙◌, ℕ, zero, suc, ◌+◌, ◌<◌, ◌≤◌, ◌&&◌, ◌==◌, ◌⊎◌, ◌++◌, inl, inr, Bool, true, false, ℤ, List, [], ◌∷◌, All, IfSome, append_assoc, nat_le, Option, Some, None, max, map, length, length-append, option_and_then, option_map, filter, cond, slice_index_or, ap, arith, refl, replicate, subst, sym, pos, take, drop, get_or}
+use Rattle.std.proofs.Common.{◌≡◌, ◌≢◌, ◌∙◌, ℕ, zero, suc, ◌+◌, ◌<◌, ◌≤◌, ◌&&◌, ◌==◌, ◌⊎◌, ◌++◌, inl, inr, Bool, true, false, ℤ, List, [], ◌∷◌, All, IfSome, encode_utf8, append_assoc, nat_le, Option, Some, None, max, map, length, length-append, option_and_then, option_map, filter, cond, slice_index_or, ap, arith, refl, replicate, subst, sym, pos, take, drop, get_or}
 use Rattle.std.specs.List.{list_any}
 use Rattle.std.specs.Option.{is_some, is_none}
 use Rattle.std.proofs.lemmas.List.{at_drop_more, map_more}
@@ -8,6 +8,10 @@ use Rattle.std.proofs.lemmas.Bool.Decides.{nat_tests}
 use Rattle.scr_cells.specs.declared.sizes.Size.{Size}
 use Rattle.scr_cells.specs.Attributes.{all_attributes}
 use Rattle.scr_cells.specs.PictureViews.{IsSize}
+use Rattle.scr_cells.specs.Characters.{is_utf8}
+use Rattle.scr_cells.specs.declared.charsets.Charset.{Charset}
+use Rattle.scr_cells.specs.declared.charsets.Charset.TheVariants.{Ascii, Utf8}
+use Rattle.std.proofs.lemmas.Str.{length-encode, len_utf8_bounds}
 use Rattle.ti_caps.specs.Description.{Description, flag_at}
 use Rattle.ti_caps.specs.declared.slots.TheConstants.{MSGR}
 use Rattle.ti_caps.specs.Table.{or_else}
@@ -22,14 +26,14 @@ use Rattle.scr_term.specs.declared.operations.capability.Capability.{Capability}
 use Rattle.scr_term.specs.declared.operations.capability.Capability.TheVariants.{Clear, Cup}
 use Rattle.scr_term.specs.declared.operations.capability.Capability.TheVariants as capability
 use Rattle.scr_term.specs.declared.operations.operation.Op.{Op}
-use Rattle.scr_term.specs.Operations.Pieces.{Piece, Character, Text}
+use Rattle.scr_term.specs.Operations.Pieces.{Piece, Character, Spelled, Text}
 use Rattle.scr_term.specs.declared.operations.profile_faults.ProfileFault.{ProfileFault}
 use Rattle.scr_term.specs.declared.operations.profile_faults.ProfileFault.TheVariants.{BadString, LongString, NoMemory}
 use Rattle.scr_term.specs.Operations.Admission.{IsRefused, admitted, bad_text, first_some, first_where, has_palette, is_bad_string, is_long_string, is_over_bound, is_spoiled, is_unreadable, named_text, planned_program, refusal, refusals, screen_size, sent_text, size_fault, spare_program, used_program, within_limits}
 use Rattle.scr_term.specs.Operations.Capabilities.{each_capability, each_spare, ordinal, slot_of}
 use Rattle.scr_term.specs.Operations.Profiles.{IsPlanned, IsProfile, ProfileView, has_colours, is_shown, program_of, set_of, shown_set}
 use Rattle.scr_term.specs.Operations.Texts.{bytes_in, bytes_of, first_piece, nine, piece_bytes, resets_colours, text, written}
-use Rattle.scr_term.specs.Code.Admission.{ArePlanned, AreTexts, program_in, counted_bound, greatest_bound, longest, with_programs}
+use Rattle.scr_term.specs.Code.Admission.{ArePlanned, AreTexts, program_in, counted_bound, greatest_bound, longest, longest_character, with_programs}
 use Rattle.scr_term.specs.Operations.Admission.{bad_fault, is_missing, long_fault, margin_fault, missing_fault, unsuitable_fault}
 use Rattle.scr_term.specs.Code.Kept.{IsKept}
 use Rattle.scr_term.proofs.RenderingLaws.{bytes_of_one, bytes_of_two}
@@ -186,9 +190,9 @@ texts_planned entry t =
     (all_planned entry each_capability (all_false (is_bad_string entry) each_capability (mapped_none _ _ t.good)) (all_false (is_long_string entry) each_capability (mapped_none _ _ t.short)))
     (spares_planned entry each_spare)
 
-pub admitted_is_profile : (entry : Description) (rows columns : ℕ) → AreTexts entry → IsSize rows columns → IsProfile (admitted entry rows columns)
+pub admitted_is_profile : (charset : Charset) (entry : Description) (rows columns : ℕ) → AreTexts entry → IsSize rows columns → IsProfile (admitted charset entry rows columns)
 unfolding admitted
-admitted_is_profile entry rows columns t size =
+admitted_is_profile charset entry rows columns t size =
     let there = all_false (is_missing entry) (Cup ∷ Clear ∷ []) (mapped_none _ _ t.whole) in
     let good = all_false (is_bad_string entry) each_capability (mapped_none _ _ t.good) in
     record {
@@ -236,15 +240,29 @@ written_within bounded (Some program) parameters planned =
     let within = outcome_within bounded program parameters (value program (start parameters (replicate 26 (pos 0)))) refl in
     omega (arith, within, planned.bound)
 
-piece_within : IsBounded → (profile : ProfileView) → ArePlanned profile.programs → (piece : Piece) → length (piece_bytes profile piece) ≤ greatest_bound 1 profile.programs
-piece_within bounded profile all (Character byte) = least_within 1 profile.programs
+spelled_within : (profile : ProfileView) (code : ℕ) (charset : Charset) → profile.charset ≡ charset → length (piece_bytes profile (Spelled code)) ≤ longest_character profile.charset
+spelled_within profile code Ascii e =
+    let none : length (piece_bytes profile (Spelled code)) ≡ 0 = ap (λ c. length (cond (is_utf8 c) (encode_utf8 code) [])) e in
+    omega (arith, none)
+spelled_within profile code Utf8 e =
+    let most : longest_character profile.charset ≡ 4 = ap longest_character e in
+    let is : length (piece_bytes profile (Spelled code)) ≡ length (encode_utf8 code) = ap (λ c. length (cond (is_utf8 c) (encode_utf8 code) [])) e in
+    omega (arith, most, is, length-encode code, (len_utf8_bounds code).1)
+
+byte_within : (charset : Charset) → 1 ≤ longest_character charset
+byte_within Ascii = omega arith
+byte_within Utf8 = omega arith
+
+piece_within : IsBounded → (profile : ProfileView) → ArePlanned profile.programs → (piece : Piece) → length (piece_bytes profile piece) ≤ greatest_bound (longest_character profile.charset) profile.programs
+piece_within bounded profile all (Character byte) = omega (arith, byte_within profile.charset, least_within (longest_character profile.charset) profile.programs)
+piece_within bounded profile all (Spelled code) = omega (arith, spelled_within profile code profile.charset refl, least_within (longest_character profile.charset) profile.programs)
 piece_within bounded profile all (Text capability parameters) =
     let one = written_within bounded (program_of profile capability) parameters (planned_at profile.programs (ordinal capability) all) in
-    let greatest = counted_within 1 profile.programs (ordinal capability) in
+    let greatest = counted_within (longest_character profile.charset) profile.programs (ordinal capability) in
     omega (arith, one, greatest)
 
 bytes_within_by : IsBounded → (profile : ProfileView) → ArePlanned profile.programs → (op : Op) (resets colours : Bool) → resets_colours op ≡ resets → has_colours profile ≡ colours
-    → length (bytes_of profile op) ≤ longest colours profile.programs
+    → length (bytes_of profile op) ≤ longest (longest_character profile.charset) colours profile.programs
 bytes_within_by bounded profile all op true true r h =
     let two = bytes_of_two profile op (ap (λ b. b && has_colours profile) r ∙ h) in
     let first = piece_within bounded profile all (first_piece profile op) in
@@ -262,33 +280,37 @@ bytes_within_by bounded profile all op false false r h =
     let one = bytes_of_one profile op (ap (λ b. b && has_colours profile) r) in
     rw one (piece_within bounded profile all (first_piece profile op))
 
-pub bytes_within : IsBounded → (profile : ProfileView) → ArePlanned profile.programs → (op : Op) → length (bytes_of profile op) ≤ longest (has_colours profile) profile.programs
+pub bytes_within : IsBounded → (profile : ProfileView) → ArePlanned profile.programs → (op : Op) → length (bytes_of profile op) ≤ longest (longest_character profile.charset) (has_colours profile) profile.programs
 bytes_within bounded profile all op = bytes_within_by bounded profile all op (resets_colours op) (has_colours profile) refl refl
 
-pub longest_few : (colours : Bool) (programs : List (Option Tree)) → ArePlanned programs → longest colours programs ≤ 2048
-longest_few true programs all = omega (arith, greatest_few 1 programs all (omega arith), counted_few_at programs (ordinal capability.Op) all)
-longest_few false programs all = omega (arith, greatest_few 1 programs all (omega arith))
+few_bytes : (charset : Charset) → longest_character charset ≤ 1024
+few_bytes Ascii = omega arith
+few_bytes Utf8 = omega arith
+
+pub longest_few : (charset : Charset) (colours : Bool) (programs : List (Option Tree)) → ArePlanned programs → longest (longest_character charset) colours programs ≤ 2048
+longest_few charset true programs all = omega (arith, greatest_few (longest_character charset) programs all (few_bytes charset), counted_few_at programs (ordinal capability.Op) all)
+longest_few charset false programs all = omega (arith, greatest_few (longest_character charset) programs all (few_bytes charset))
 
 -- what a profile keeps, where these are the words of its view
-pub kept : IsBounded → (entry : Description) (rows columns : ℕ) (profile : ProfileView) (shown : ℕ) (colours : Bool) (most : ℕ) → profile ≡ admitted entry rows columns → AreTexts entry → IsSize rows columns
-    → shown ≡ shown_set profile → colours ≡ has_colours profile → most ≡ longest colours profile.programs → IsKept profile shown colours most
-kept bounded entry rows columns profile shown colours most made texts size s h m =
-    let is : IsProfile profile = subst IsProfile (sym made) (admitted_is_profile entry rows columns texts size) in
-    let same : most ≡ longest (has_colours profile) profile.programs = m ∙ ap (λ b. longest b profile.programs) h in
+pub kept : IsBounded → (charset : Charset) (entry : Description) (rows columns : ℕ) (profile : ProfileView) (shown : ℕ) (colours : Bool) (most : ℕ) → profile ≡ admitted charset entry rows columns → AreTexts entry → IsSize rows columns
+    → shown ≡ shown_set profile → colours ≡ has_colours profile → most ≡ longest (longest_character profile.charset) colours profile.programs → IsKept profile shown colours most
+kept bounded charset entry rows columns profile shown colours most made texts size s h m =
+    let is : IsProfile profile = subst IsProfile (sym made) (admitted_is_profile charset entry rows columns texts size) in
+    let same : most ≡ longest (longest_character profile.charset) (has_colours profile) profile.programs = m ∙ ap (λ b. longest (longest_character profile.charset) b profile.programs) h in
     record {
       is_profile = is;
       attributes = s;
       palette = h;
       prices = λ op. subst (λ n. length (bytes_of profile op) ≤ n) (sym same) (bytes_within bounded profile is.programs op);
-      few = subst (λ n. n ≤ 2048) (sym same) (longest_few (has_colours profile) profile.programs is.programs);
+      few = subst (λ n. n ≤ 2048) (sym same) (longest_few profile.charset (has_colours profile) profile.programs is.programs);
     }
 
 -- ---- the view of the profile
 
-pub made_profile : (entry : Description) (rows columns : ℕ) (programs : List (Option Tree)) (msgr palette : Bool) → programs ≡ map (planned_program entry) each_capability ++ map (spare_program entry) each_spare → msgr ≡ flag_at entry MSGR.0 → palette ≡ has_palette entry
-    → (let profile : ProfileView = record { rows = rows; columns = columns; programs = programs; msgr = msgr; palette = palette } in profile) ≡ admitted entry rows columns
+pub made_profile : (charset : Charset) (entry : Description) (rows columns : ℕ) (programs : List (Option Tree)) (msgr palette : Bool) → programs ≡ map (planned_program entry) each_capability ++ map (spare_program entry) each_spare → msgr ≡ flag_at entry MSGR.0 → palette ≡ has_palette entry
+    → (let profile : ProfileView = record { rows = rows; columns = columns; programs = programs; msgr = msgr; palette = palette; charset = charset } in profile) ≡ admitted charset entry rows columns
 unfolding admitted
-made_profile entry rows columns programs msgr palette p m q = λ i. record { rows = rows; columns = columns; programs = p i; msgr = m i; palette = q i }
+made_profile charset entry rows columns programs msgr palette p m q = λ i. record { rows = rows; columns = columns; programs = p i; msgr = m i; palette = q i; charset = charset }
 
 pub shown_is : (profile : ProfileView) (programs : List (Option Tree)) → programs ≡ profile.programs → set_of (filter (is_shown (with_programs false programs)) all_attributes) ≡ shown_set profile
 unfolding shown_set

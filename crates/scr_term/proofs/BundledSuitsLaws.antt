@@ -107,17 +107,6 @@ pub ecma48_columns : (entry : Description) (size : Size) (profile : ProfileView)
 unfolding admitted
 ecma48_columns entry size profile is = ap {A = ProfileView} (λ p. p.columns) is.made
 
-pub ecma48_is : (entry : Description) (size : Size) → IsBundled entry → (profile : ProfileView) → IsAdmitted entry (Some size) profile → IsEcma48 profile
-ecma48_is entry size bundled profile is =
-    let rows = sym (ecma48_rows entry size profile is) in
-    let columns = sym (ecma48_columns entry size profile is) in
-    record {
-      size = subst (λ n. IsSize n profile.columns) rows (subst (IsSize size.rows) columns size.in_range);
-      entry = entry;
-      bundled = bundled;
-      made = is.made ∙ ap (λ n. admitted entry n size.columns) rows ∙ ap (admitted entry profile.rows) columns;
-    }
-
 -- a refusal is for want of memory
 pub memory_alone : (entry : Description) (size : Size) → IsBundled entry → (fault : ProfileFault) → IsRefused entry (Some size) fault → fault ≡ NoMemory
 memory_alone entry size is fault (inl m) = m

@@ -4,6 +4,7 @@ use Rattle.std.specs.List.{list_all}
 use Rattle.std.proofs.lemmas.Bool.Decides.{nat_tests}
 use Rattle.std.proofs.lemmas.List.Elements.{All-nil, All-cons}
 use Rattle.scr_cells.specs.PictureViews.{IsSize}
+use Rattle.scr_cells.specs.declared.charsets.Charset.{Charset}
 use Rattle.ti_caps.specs.Bundled.{IsBundled, bundled_texts, listed}
 use Rattle.ti_caps.specs.Description.{Description, text_at}
 use Rattle.ti_caps.specs.declared.slots.TheConstants.{MSGR, COLORS, PAIRS, NCV}
@@ -46,14 +47,15 @@ spares_are entry b =
 has_a_palette : (entry : Description) → IsBundled entry → has_palette entry ≡ true
 has_a_palette entry b = λ i. is_at_least 8 (b.numbers COLORS.0 i) && is_at_least 64 (b.numbers PAIRS.0 i) && is_zero_or_absent (b.numbers NCV.0 i)
 
-made_of : (rows columns : ℕ) (entry : Description) → IsBundled entry → admitted entry rows columns ≡ ecma48_profile rows columns
+made_of : (charset : Charset) (rows columns : ℕ) (entry : Description) → IsBundled entry → admitted charset entry rows columns ≡ ecma48_profile charset rows columns
 unfolding admitted ecma48_profile
-made_of rows columns entry b = λ i. record {
+made_of charset rows columns entry b = λ i. record {
   rows = rows;
   columns = columns;
   programs = programs_are entry b i ++ spares_are entry b i;
   msgr = b.flags MSGR.0 i;
   palette = has_a_palette entry b i;
+  charset = charset;
 }
 
 -- the same limits as a test
@@ -71,9 +73,9 @@ all_planned (program ∷ programs) h =
     let both = both_true (is_planned program) (list_all is_planned programs) h in
     All-cons (λ p. IfSome p IsPlanned) program programs (planned_is program both.0) (all_planned programs both.1)
 
-is_one : (rows columns : ℕ) → IsSize rows columns → IsProfile (ecma48_profile rows columns)
+is_one : (charset : Charset) (rows columns : ℕ) → IsSize rows columns → IsProfile (ecma48_profile charset rows columns)
 unfolding ecma48_profile bundled_texts stripped parsed
-is_one rows columns size = record {
+is_one charset rows columns size = record {
   size = size;
   whole = refl;
   programs = all_planned (map bundled_program each_capability ++ map bundled_program each_spare) refl;
@@ -81,15 +83,15 @@ is_one rows columns size = record {
   clear = refl;
 }
 
-shows_all : (rows columns : ℕ) → abilities (ecma48_profile rows columns) ≡ full_abilities rows columns
+shows_all : (charset : Charset) (rows columns : ℕ) → abilities (ecma48_profile charset rows columns) ≡ full_abilities charset rows columns
 unfolding ecma48_profile bundled_texts stripped parsed shown_set has_colours
-shows_all rows columns = refl
+shows_all charset rows columns = refl
 
-pub made : (profile : ProfileView) → IsEcma48 profile → profile ≡ ecma48_profile profile.rows profile.columns
-made profile is = is.made ∙ made_of profile.rows profile.columns is.entry is.bundled
+pub made : (profile : ProfileView) → IsEcma48 profile → profile ≡ ecma48_profile profile.charset profile.rows profile.columns
+made profile is = is.made ∙ made_of profile.charset profile.rows profile.columns is.entry is.bundled
 
 pub is_profile : (profile : ProfileView) → IsEcma48 profile → IsProfile profile
-is_profile profile is = subst IsProfile (sym (made profile is)) (is_one profile.rows profile.columns is.size)
+is_profile profile is = subst IsProfile (sym (made profile is)) (is_one profile.charset profile.rows profile.columns is.size)
 
 pub ecma48_laws_hold : Ecma48Laws
 ecma48_laws_hold = record { made = made; is_profile = is_profile; can_show = shows_all }
@@ -112,102 +114,102 @@ is_spare Rin = true
 is_spare Rep = true
 is_spare _ = false
 
-there : (rows columns : ℕ) (capability : Capability) → is_there (ecma48_profile rows columns) capability ≡ not (is_spare capability)
+there : (charset : Charset) (rows columns : ℕ) (capability : Capability) → is_there (ecma48_profile charset rows columns) capability ≡ not (is_spare capability)
 unfolding ecma48_profile bundled_texts stripped parsed
-there rows columns Cr = refl
-there rows columns Clear = refl
-there rows columns El = refl
-there rows columns Ed = refl
-there rows columns Hpa = refl
-there rows columns Cup = refl
-there rows columns Cud1 = refl
-there rows columns Home = refl
-there rows columns Cub1 = refl
-there rows columns Cuf1 = refl
-there rows columns Cuu1 = refl
-there rows columns Blink = refl
-there rows columns Bold = refl
-there rows columns Dim = refl
-there rows columns Invis = refl
-there rows columns Rev = refl
-there rows columns Smso = refl
-there rows columns Smul = refl
-there rows columns Ech = refl
-there rows columns Sgr0 = refl
-there rows columns Cud = refl
-there rows columns Cub = refl
-there rows columns Cuf = refl
-there rows columns Cuu = refl
-there rows columns Vpa = refl
-there rows columns Sgr = refl
-there rows columns Op = refl
-there rows columns Setaf = refl
-there rows columns Setab = refl
-there rows columns Il1 = refl
-there rows columns Il = refl
-there rows columns Dl1 = refl
-there rows columns Dl = refl
-there rows columns Ich = refl
-there rows columns Dch1 = refl
-there rows columns Dch = refl
-there rows columns Ind = refl
-there rows columns Ri = refl
-there rows columns Indn = refl
-there rows columns Rin = refl
-there rows columns Rep = refl
+there charset rows columns Cr = refl
+there charset rows columns Clear = refl
+there charset rows columns El = refl
+there charset rows columns Ed = refl
+there charset rows columns Hpa = refl
+there charset rows columns Cup = refl
+there charset rows columns Cud1 = refl
+there charset rows columns Home = refl
+there charset rows columns Cub1 = refl
+there charset rows columns Cuf1 = refl
+there charset rows columns Cuu1 = refl
+there charset rows columns Blink = refl
+there charset rows columns Bold = refl
+there charset rows columns Dim = refl
+there charset rows columns Invis = refl
+there charset rows columns Rev = refl
+there charset rows columns Smso = refl
+there charset rows columns Smul = refl
+there charset rows columns Ech = refl
+there charset rows columns Sgr0 = refl
+there charset rows columns Cud = refl
+there charset rows columns Cub = refl
+there charset rows columns Cuf = refl
+there charset rows columns Cuu = refl
+there charset rows columns Vpa = refl
+there charset rows columns Sgr = refl
+there charset rows columns Op = refl
+there charset rows columns Setaf = refl
+there charset rows columns Setab = refl
+there charset rows columns Il1 = refl
+there charset rows columns Il = refl
+there charset rows columns Dl1 = refl
+there charset rows columns Dl = refl
+there charset rows columns Ich = refl
+there charset rows columns Dch1 = refl
+there charset rows columns Dch = refl
+there charset rows columns Ind = refl
+there charset rows columns Ri = refl
+there charset rows columns Indn = refl
+there charset rows columns Rin = refl
+there charset rows columns Rep = refl
 
-program_at : (rows columns : ℕ) (capability : Capability) → program_of (ecma48_profile rows columns) capability ≡ bundled_program capability
+program_at : (charset : Charset) (rows columns : ℕ) (capability : Capability) → program_of (ecma48_profile charset rows columns) capability ≡ bundled_program capability
 unfolding ecma48_profile
-program_at rows columns Cr = refl
-program_at rows columns Clear = refl
-program_at rows columns El = refl
-program_at rows columns Ed = refl
-program_at rows columns Hpa = refl
-program_at rows columns Cup = refl
-program_at rows columns Cud1 = refl
-program_at rows columns Home = refl
-program_at rows columns Cub1 = refl
-program_at rows columns Cuf1 = refl
-program_at rows columns Cuu1 = refl
-program_at rows columns Blink = refl
-program_at rows columns Bold = refl
-program_at rows columns Dim = refl
-program_at rows columns Invis = refl
-program_at rows columns Rev = refl
-program_at rows columns Smso = refl
-program_at rows columns Smul = refl
-program_at rows columns Ech = refl
-program_at rows columns Sgr0 = refl
-program_at rows columns Cud = refl
-program_at rows columns Cub = refl
-program_at rows columns Cuf = refl
-program_at rows columns Cuu = refl
-program_at rows columns Vpa = refl
-program_at rows columns Sgr = refl
-program_at rows columns Op = refl
-program_at rows columns Setaf = refl
-program_at rows columns Setab = refl
-program_at rows columns Il1 = refl
-program_at rows columns Il = refl
-program_at rows columns Dl1 = refl
-program_at rows columns Dl = refl
-program_at rows columns Ich = refl
-program_at rows columns Dch1 = refl
-program_at rows columns Dch = refl
-program_at rows columns Ind = refl
-program_at rows columns Ri = refl
-program_at rows columns Indn = refl
-program_at rows columns Rin = refl
-program_at rows columns Rep = refl
+program_at charset rows columns Cr = refl
+program_at charset rows columns Clear = refl
+program_at charset rows columns El = refl
+program_at charset rows columns Ed = refl
+program_at charset rows columns Hpa = refl
+program_at charset rows columns Cup = refl
+program_at charset rows columns Cud1 = refl
+program_at charset rows columns Home = refl
+program_at charset rows columns Cub1 = refl
+program_at charset rows columns Cuf1 = refl
+program_at charset rows columns Cuu1 = refl
+program_at charset rows columns Blink = refl
+program_at charset rows columns Bold = refl
+program_at charset rows columns Dim = refl
+program_at charset rows columns Invis = refl
+program_at charset rows columns Rev = refl
+program_at charset rows columns Smso = refl
+program_at charset rows columns Smul = refl
+program_at charset rows columns Ech = refl
+program_at charset rows columns Sgr0 = refl
+program_at charset rows columns Cud = refl
+program_at charset rows columns Cub = refl
+program_at charset rows columns Cuf = refl
+program_at charset rows columns Cuu = refl
+program_at charset rows columns Vpa = refl
+program_at charset rows columns Sgr = refl
+program_at charset rows columns Op = refl
+program_at charset rows columns Setaf = refl
+program_at charset rows columns Setab = refl
+program_at charset rows columns Il1 = refl
+program_at charset rows columns Il = refl
+program_at charset rows columns Dl1 = refl
+program_at charset rows columns Dl = refl
+program_at charset rows columns Ich = refl
+program_at charset rows columns Dch1 = refl
+program_at charset rows columns Dch = refl
+program_at charset rows columns Ind = refl
+program_at charset rows columns Ri = refl
+program_at charset rows columns Indn = refl
+program_at charset rows columns Rin = refl
+program_at charset rows columns Rep = refl
 
 pub program_is : (profile : ProfileView) → IsEcma48 profile → (capability : Capability) → program_of profile capability ≡ bundled_program capability
-program_is profile is capability = ap (λ p. program_of p capability) (made profile is) ∙ program_at profile.rows profile.columns capability
+program_is profile is capability = ap (λ p. program_of p capability) (made profile is) ∙ program_at profile.charset profile.rows profile.columns capability
 
 pub all_there : (profile : ProfileView) → IsEcma48 profile → (capability : Capability) → is_there profile capability ≡ not (is_spare capability)
-all_there profile is capability = ap (λ p. is_there p capability) (made profile is) ∙ there profile.rows profile.columns capability
+all_there profile is capability = ap (λ p. is_there p capability) (made profile is) ∙ there profile.charset profile.rows profile.columns capability
 
 pub colours_are_shown : (profile : ProfileView) → IsEcma48 profile → has_colours profile ≡ true
-colours_are_shown profile is = ap has_colours (made profile is) ∙ ap (λ a. a.colours) (shows_all profile.rows profile.columns)
+colours_are_shown profile is = ap has_colours (made profile is) ∙ ap (λ a. a.colours) (shows_all profile.charset profile.rows profile.columns)
 
 pub every_is_shown : (profile : ProfileView) → IsEcma48 profile → shown_set profile ≡ 127
-every_is_shown profile is = ap shown_set (made profile is) ∙ ap (λ a. a.shown) (shows_all profile.rows profile.columns)
+every_is_shown profile is = ap shown_set (made profile is) ∙ ap (λ a. a.shown) (shows_all profile.charset profile.rows profile.columns)

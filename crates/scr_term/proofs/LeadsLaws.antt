@@ -5,6 +5,7 @@ use Rattle.std.specs.Fmt.{decimal}
 use Rattle.std.proofs.lemmas.Fmt.{length-decimal-le}
 use Rattle.std.proofs.lemmas.List.{append-nil}
 use Rattle.std.proofs.lemmas.List.Concat.{flat_map-append}
+use Rattle.scr_cells.specs.declared.charsets.Charset.{Charset}
 use Rattle.scr_term.specs.Operations.States.{TerminalState}
 use Rattle.scr_term.specs.Ecma.Units.{EcmaUnit, Sequence, spelling, IsUnit, IsSequence}
 use Rattle.scr_term.specs.Ecma.Meanings.{Leads, control_function, meaning, meanings, parameters_of}
@@ -13,18 +14,18 @@ use Rattle.scr_term.proofs.ChoiceLaws.{same_some, then_some}
 use Rattle.scr_term.proofs.Parameters.{parameter_bytes}
 
 -- a unit
-pub unit_leads : (rows columns : ℕ) (old new : TerminalState) (unit : EcmaUnit) → IsUnit unit → meaning rows columns old unit ≡ Some new → Leads rows columns old (spelling unit) new
-unit_leads rows columns old new unit is means = record {
+pub unit_leads : (charset : Charset) (rows columns : ℕ) (old new : TerminalState) (unit : EcmaUnit) → IsUnit charset unit → meaning rows columns old unit ≡ Some new → Leads charset rows columns old (spelling unit) new
+unit_leads charset rows columns old new unit is means = record {
   units = unit ∷ [];
   division = record { whole = sym (append-nil (spelling unit ++ []) ∙ append-nil (spelling unit)); each = (is, tt) };
   meaning = ap (option_and_then (λ next. Some next)) means;
 }
 
 -- a control sequence, by its parameters
-pub sequence_leads : (rows columns : ℕ) (old new : TerminalState) (parameters : List ℕ) (final : ℕ) (ns : List (Option ℕ)) → IsSequence parameters final
-    → parameters_of parameters ≡ Some ns → control_function rows columns old ns final ≡ Some new → Leads rows columns old (control_sequence parameters final) new
-sequence_leads rows columns old new parameters final ns is read means =
-    unit_leads rows columns old new (Sequence parameters final) is (ap (option_and_then (λ list. control_function rows columns old list final)) read ∙ means)
+pub sequence_leads : (charset : Charset) (rows columns : ℕ) (old new : TerminalState) (parameters : List ℕ) (final : ℕ) (ns : List (Option ℕ)) → IsSequence parameters final
+    → parameters_of parameters ≡ Some ns → control_function rows columns old ns final ≡ Some new → Leads charset rows columns old (control_sequence parameters final) new
+sequence_leads charset rows columns old new parameters final ns is read means =
+    unit_leads charset rows columns old new (Sequence parameters final) is (ap (option_and_then (λ list. control_function rows columns old list final)) read ∙ means)
 
 -- a number is parameters
 pub short_decimal : (n : ℕ) → n ≤ 501 → length (decimal n) ≤ 3
@@ -46,12 +47,12 @@ meanings-append rows columns old next (u ∷ us) vs h =
     let first = then_some (meaning rows columns old u) (λ s. meanings rows columns s us) next h in
     ap (option_and_then (λ s. meanings rows columns s (us ++ vs))) first.1 ∙ meanings-append rows columns first.0 next us vs first.2
 
-all_units_append : (us vs : List EcmaUnit) → AllByRecursion IsUnit us → AllByRecursion IsUnit vs → AllByRecursion IsUnit (us ++ vs)
-all_units_append [] vs hu hv = hv
-all_units_append (u ∷ us) vs hu hv = (hu.0, all_units_append us vs hu.1 hv)
+all_units_append : (charset : Charset) (us vs : List EcmaUnit) → AllByRecursion (IsUnit charset) us → AllByRecursion (IsUnit charset) vs → AllByRecursion (IsUnit charset) (us ++ vs)
+all_units_append charset [] vs hu hv = hv
+all_units_append charset (u ∷ us) vs hu hv = (hu.0, all_units_append charset us vs hu.1 hv)
 
-pub leads-append : (rows columns : ℕ) (a b d : TerminalState) (x y : List ℕ) → Leads rows columns a x b → Leads rows columns b y d → Leads rows columns a (x ++ y) d
-leads-append rows columns a b d x y first second = record {
+pub leads-append : (charset : Charset) (rows columns : ℕ) (a b d : TerminalState) (x y : List ℕ) → Leads charset rows columns a x b → Leads charset rows columns b y d → Leads charset rows columns a (x ++ y) d
+leads-append charset rows columns a b d x y first second = record {
   units = first.units ++ second.units;
   division = record {
     whole =
@@ -59,7 +60,7 @@ leads-append rows columns a b d x y first second = record {
         ∙ ap (λ t. flat_map spelling first.units ++ t) second.division.whole
         ∙ sym (append_assoc (flat_map spelling first.units) (flat_map spelling second.units) [])
         ∙ ap (λ t. t ++ []) (sym (flat_map-append spelling first.units second.units));
-    each = all_units_append first.units second.units first.division.each second.division.each;
+    each = all_units_append charset first.units second.units first.division.each second.division.each;
   };
   meaning = meanings-append rows columns a b first.units second.units first.meaning ∙ second.meaning;
 }

@@ -4,6 +4,7 @@ pub mod Ecma48Laws
 mod LookGridLaws
 pub mod BundledTextLaws
 pub mod NegativeLaws
+pub mod CharacterLaws
 pub mod ChoiceLaws
 pub mod LeadsLaws
 pub mod RenditionLaws

@@ -1,5 +1,5 @@
 -- Grids of looks: blank ones, and what a character that is put in a place keeps.
-use Rattle.std.proofs.Common.{Bool, true, false, cond, get_or, ◌+◌, ◌-◌, ◌≤◌, ◌≡◌, ◌≢◌, ◌⊎◌, inl, inr, ℕ, zero, suc, ◌<◌, All, List, [], ◌++◌, ap, arith, drop, length, length-append, map, replicate, set, subst, sym, take, ◌∙◌}
+use Rattle.std.proofs.Common.{Bool, true, false, cond, get_or, ◌+◌, ◌-◌, ◌≤◌, ◌≡◌, ◌≢◌, ◌⊎◌, inl, inr, ℕ, zero, suc, ◌<◌, All, List, [], ◌++◌, ap, arith, drop, length, length-append, map, refl, replicate, set, subst, sym, take, ◌∙◌}
 use Rattle.std.specs.List.{range_with_len}
 use Rattle.std.proofs.Math.ListN.{get_or-eq_default, get_or-map}
 use Rattle.std.proofs.lemmas.Simd.{map-map}
@@ -76,7 +76,7 @@ is_blank rows columns = record {
 
 pub all_blank : (rows columns : ℕ) → All (All IsLook) (blank_grid rows columns)
 all_blank rows columns =
-    let look : IsLook blank = record { character = (omega arith, omega arith); pen = record { attributes = omega arith; foreground = tt; background = tt } } in
+    let look : IsLook blank = record { character = refl; pen = record { attributes = omega arith; foreground = tt; background = tt } } in
     All-map (All IsLook) (λ (_ : ℕ). blank_line columns) (range_with_len 0 rows) (λ k d h. All-map IsLook (λ (_ : ℕ). blank) (range_with_len 0 columns) (λ i e j. look))
 
 -- the negative of blanks is blanks, and that of a look in a place is its negative in that place
@@ -94,7 +94,7 @@ negative_put lines r c look =
 -- ---- some places made blank
 
 look_is : IsLook blank
-look_is = record { character = (omega arith, omega arith); pen = record { attributes = omega arith; foreground = tt; background = tt } }
+look_is = record { character = refl; pen = record { attributes = omega arith; foreground = tt; background = tt } }
 
 before_or_not : (a b : ℕ) → (a < b) ⊎ (b ≤ a)
 before_or_not a b = grind arith

@@ -1,5 +1,5 @@
 -- On the bundled entry, the bytes of each operation do to the negative of a state what the operation does to the state.
-use Rattle.std.proofs.Common.{◌≡◌, ℕ, ℤ, pos, ◌+◌, ◌-◌, ◌<◌, ◌≤◌, ◌==◌, ◌&&◌, ◌||◌, Bool, true, false, IsTrue, cond, not, inl, inr, refl, sym, ◌∙◌, ap, subst, arith, List, [], ◌∷◌, ◌++◌, length-append, Option, Some, None, option_map, option_and_then, bit_and, bit_or, nat_le, nat_lt}
+use Rattle.std.proofs.Common.{◌≡◌, ℕ, ℤ, pos, ◌+◌, ◌-◌, ◌<◌, ◌≤◌, ◌==◌, ◌&&◌, ◌||◌, Bool, true, false, IsTrue, cond, not, inl, inr, refl, sym, ◌∙◌, ap, subst, arith, List, [], ◌∷◌, ◌++◌, length-append, Option, Some, None, option_map, option_and_then, bit_and, bit_or, encode_utf8, nat_le, nat_lt}
 use Rattle.std.specs.List.{flat_map, list_any}
 use Rattle.std.specs.Fmt.{decimal}
 use Rattle.std.proofs.lemmas.Nat.{and_le_l}
@@ -7,26 +7,29 @@ use Rattle.std.proofs.lemmas.List.{append-nil}
 use Rattle.std.proofs.lemmas.Bool.{eqb-true, false≢true}
 use Rattle.std.proofs.lemmas.Bool.Decides.{nat_tests}
 use Rattle.scr_cells.specs.Attributes.{all_attributes}
+use Rattle.scr_cells.specs.Characters.{is_beyond_ascii, is_utf8}
 use Rattle.scr_cells.specs.LookViews.{LookView, blank_grid}
 use Rattle.scr_cells.specs.PenViews.{PenView, is_plain_pen, negative_pen, plain_pen, with_attribute}
 use Rattle.scr_cells.specs.Grids.{grid_with}
 use Rattle.scr_cells.specs.PictureViews.{IsSize}
 use Rattle.ti_param.specs.ProgramLaws.{AddsOne, WritesDecimal}
+use Rattle.scr_cells.specs.declared.charsets.Charset.{Charset}
 use Rattle.scr_term.specs.declared.operations.capability.Capability.{Capability}
 use Rattle.scr_term.specs.declared.operations.capability.Capability.TheVariants as capability
 use Rattle.scr_term.specs.declared.operations.operation.Op.{Op}
-use Rattle.scr_term.specs.declared.operations.operation.Op.TheVariants.{Home, Move, Column, Line, Up, Down, Left, Right, UpBy, DownBy, LeftBy, RightBy, Return, Clear, EraseLine, EraseBelow, EraseChars, InsertLines, DeleteLines, InsertChars, DeleteChars, ScrollUp, ScrollDown, Reset, ExitAttributes, Enter, Set, Fore, Back, Put, Repeat}
+use Rattle.scr_term.specs.declared.operations.operation.Op.TheVariants.{Home, Move, Column, Line, Up, Down, Left, Right, UpBy, DownBy, LeftBy, RightBy, Return, Clear, EraseLine, EraseBelow, EraseChars, InsertLines, DeleteLines, InsertChars, DeleteChars, ScrollUp, ScrollDown, Reset, ExitAttributes, Enter, Set, Fore, Back, Put, Write, Repeat}
 use Rattle.scr_term.specs.declared.operations.operation.Spot.{Spot}
-use Rattle.scr_term.specs.Operations.Pieces.{Piece, Character, Text}
+use Rattle.scr_term.specs.Operations.Pieces.{Piece, Character, Spelled, Text}
 use Rattle.scr_term.specs.declared.operations.operation.Spot.TheVariants.{At, Margin}
 use Rattle.scr_term.specs.Operations.Admission.{IsEcma48}
 use Rattle.scr_term.specs.Operations.Profiles.{ProfileView, abilities, has_colours, is_there, program_of, shown_set}
-use Rattle.scr_term.specs.Operations.States.{from_place, TerminalState, IsState, negative_state, moved_down, moved_left, moved_right, moved_to, moved_to_column, moved_to_row, moved_up, rest_of_line_erased, characters_erased, written_at, spot_after}
+use Rattle.scr_term.specs.Operations.States.{from_place, TerminalState, IsState, negative_state, moved_down, moved_left, moved_right, moved_to, moved_to_column, moved_to_row, moved_up, rest_of_line_erased, character_written, characters_erased, written_at, spot_after}
 use Rattle.scr_term.specs.Operations.Steps.{act, lines_below_erased}
 use Rattle.scr_term.specs.Operations.Texts.{bytes_of, first_piece, has, is_sendable, is_within, motion, nine, piece_bytes, pieces, renditions_of, text, text_of_one, written}
-use Rattle.scr_term.specs.Ecma.Units.{Graphic, Control, is_parameter_byte}
-use Rattle.scr_term.specs.Ecma.Meanings.{Leads, control_function, count_of, cursor_at, parameters_of, renditions}
+use Rattle.scr_term.specs.Ecma.Units.{EcmaUnit, Graphic, Spelled, Control, IsUnit, is_parameter_byte, spelling}
+use Rattle.scr_term.specs.Ecma.Meanings.{Leads, control_function, count_of, cursor_at, meaning, parameters_of, renditions}
 use Rattle.scr_term.specs.Operations.Laws.{BytesActAsTheirOperation}
+use Rattle.scr_term.proofs.CharacterLaws.{is_spelled}
 use Rattle.scr_term.proofs.Attributes.{each_attribute, negative-or_standout, negative-or_underline, negative-or_reverse, negative-or_blink, negative-or_dim, negative-or_bold, negative-or_invis}
 use Rattle.scr_term.proofs.Ecma48Laws.{all_there, colours_are_shown, every_is_shown, is_spare, program_is}
 use Rattle.scr_term.specs.Operations.Ecma48.{bundled_program}
@@ -83,16 +86,16 @@ negative_leads : (new : TerminalState) (f g : Option TerminalState) → AreNegat
 negative_leads new f g same h = same ∙ ap (option_map negative_state) h
 
 -- a control sequence without parameters
-bare_leads : (rows columns : ℕ) (old new : TerminalState) (final : ℕ) → 64 ≤ final → final ≤ 126
-    → control_function rows columns old (None ∷ []) final ≡ Some new → Leads rows columns old (control_sequence [] final) new
-bare_leads rows columns old new final low high means =
-    sequence_leads rows columns old new [] final (None ∷ []) (record { digits = tt; short = omega arith; from_at_sign = low; to_tilde = high }) refl means
+bare_leads : (charset : Charset) (rows columns : ℕ) (old new : TerminalState) (final : ℕ) → 64 ≤ final → final ≤ 126
+    → control_function rows columns old (None ∷ []) final ≡ Some new → Leads charset rows columns old (control_sequence [] final) new
+bare_leads charset rows columns old new final low high means =
+    sequence_leads charset rows columns old new [] final (None ∷ []) (record { digits = tt; short = omega arith; from_at_sign = low; to_tilde = high }) refl means
 
 -- one of a number
-counted_leads : (rows columns : ℕ) (old new : TerminalState) (n final : ℕ) → n ≤ 501 → 64 ≤ final → final ≤ 126
-    → control_function rows columns old (Some n ∷ []) final ≡ Some new → Leads rows columns old (control_sequence (decimal n) final) new
-counted_leads rows columns old new n final few low high means =
-    sequence_leads rows columns old new (decimal n) final (Some n ∷ []) (decimal_is_sequence n final few low high) (parameters_of_one n (omega arith)) means
+counted_leads : (charset : Charset) (rows columns : ℕ) (old new : TerminalState) (n final : ℕ) → n ≤ 501 → 64 ≤ final → final ≤ 126
+    → control_function rows columns old (Some n ∷ []) final ≡ Some new → Leads charset rows columns old (control_sequence (decimal n) final) new
+counted_leads charset rows columns old new n final few low high means =
+    sequence_leads charset rows columns old new (decimal n) final (Some n ∷ []) (decimal_is_sequence n final few low high) (parameters_of_one n (omega arith)) means
 
 -- the count that a parameter from 1 gives
 counted : (n : ℕ) (f : ℕ → Option TerminalState) → 1 ≤ n → option_and_then f (count_of (Some n ∷ [])) ≡ f n
@@ -110,11 +113,11 @@ next_place rows columns state r c =
     ∙ ap (λ n. moved_to rows columns state n (c + 1 - 1)) row ∙ ap (λ n. moved_to rows columns state r n) column
 
 -- a row and a column
-place_leads : (rows columns : ℕ) (old new : TerminalState) (r c : ℕ) → r ≤ 500 → c ≤ 500 → moved_to rows columns old r c ≡ Some new
-    → Leads rows columns old (control_sequence (decimal (r + 1) ++ 59 ∷ decimal (c + 1)) 72) new
+place_leads : (charset : Charset) (rows columns : ℕ) (old new : TerminalState) (r c : ℕ) → r ≤ 500 → c ≤ 500 → moved_to rows columns old r c ≡ Some new
+    → Leads charset rows columns old (control_sequence (decimal (r + 1) ++ 59 ∷ decimal (c + 1)) 72) new
 unfolding control_function
-place_leads rows columns old new r c few_r few_c means =
-    sequence_leads rows columns old new (decimal (r + 1) ++ 59 ∷ decimal (c + 1)) 72 (Some (r + 1) ∷ Some (c + 1) ∷ [])
+place_leads charset rows columns old new r c few_r few_c means =
+    sequence_leads charset rows columns old new (decimal (r + 1) ++ 59 ∷ decimal (c + 1)) 72 (Some (r + 1) ∷ Some (c + 1) ∷ [])
     (record {
       digits = parameter_bytes_of_two (decimal (r + 1)) (decimal (c + 1)) (parameter_bytes (r + 1) (omega arith)) (parameter_bytes (c + 1) (omega arith));
       short = omega (arith, length-append (decimal (r + 1)) (59 ∷ decimal (c + 1)), short_decimal (r + 1) (omega arith), short_decimal (c + 1) (omega arith));
@@ -123,39 +126,49 @@ place_leads rows columns old new r c few_r few_c means =
     })
     (parameters_of_two (r + 1) (c + 1) (omega arith) (omega arith)) (next_place rows columns old r c ∙ means)
 
--- a character on the negative screen is the negative of the character
-put_leads : (rows columns byte : ℕ) (old new : TerminalState) (spot : Spot) → old.spot ≡ spot → 32 ≤ byte → byte ≤ 126
-    → written_at columns old byte spot ≡ Some new → Leads rows columns (negative_state old) (byte ∷ []) (negative_state new)
-put_leads rows columns byte old new (Margin r) e low high h = absurd (no_state h)
+-- a character on the negative screen is the negative of the character, if a unit writes it
+written_leads : (charset : Charset) (rows columns code : ℕ) (unit : EcmaUnit) (old new : TerminalState) (spot : Spot) → old.spot ≡ spot → IsUnit charset unit → ((state : TerminalState) → meaning rows columns state unit ≡ character_written columns state code)
+    → written_at columns old code spot ≡ Some new → Leads charset rows columns (negative_state old) (spelling unit) (negative_state new)
+written_leads charset rows columns code unit old new (Margin r) e is means h = absurd (no_state h)
   where
     no_state : None ≡ Some new → ⊥
     no_state n = (cc)
-put_leads rows columns byte old new (At r c) e low high h =
-    let look : LookView = record { character = byte; pen = old.pen } in
+written_leads charset rows columns code unit old new (At r c) e is means h =
+    let look : LookView = record { character = code; pen = old.pen } in
     let next : TerminalState = record { grid = grid_with old.grid r c look; spot = spot_after columns r c; pen = old.pen } in
-    subst (λ s. Leads rows columns (negative_state old) (byte ∷ []) (negative_state s)) (same_some next new h)
-    (unit_leads rows columns (negative_state old) (negative_state next) (Graphic byte) (low, high)
-    (ap (written_at columns (negative_state old) byte) e ∙ ap (λ g. Some (record { grid = g; spot = spot_after columns r c; pen = negative_pen old.pen })) (sym (negative_put old.grid r c look))))
+    subst (λ s. Leads charset rows columns (negative_state old) (spelling unit) (negative_state s)) (same_some next new h)
+    (unit_leads charset rows columns (negative_state old) (negative_state next) unit is
+    (means (negative_state old) ∙ ap (written_at columns (negative_state old) code) e ∙ ap (λ g. Some (record { grid = g; spot = spot_after columns r c; pen = negative_pen old.pen })) (sym (negative_put old.grid r c look))))
+
+put_leads : (charset : Charset) (rows columns byte : ℕ) (old new : TerminalState) (spot : Spot) → old.spot ≡ spot → 32 ≤ byte → byte ≤ 126
+    → written_at columns old byte spot ≡ Some new → Leads charset rows columns (negative_state old) (byte ∷ []) (negative_state new)
+put_leads charset rows columns byte old new spot e low high h = written_leads charset rows columns byte (Graphic byte) old new spot e (low, high) (λ state. refl) h
+
+-- a character of one column in UTF-8
+spelled_leads : (charset : Charset) (rows columns code : ℕ) (old new : TerminalState) (spot : Spot) → old.spot ≡ spot → is_utf8 charset ≡ true → is_beyond_ascii code ≡ true
+    → written_at columns old code spot ≡ Some new → Leads charset rows columns (negative_state old) (encode_utf8 code) (negative_state new)
+spelled_leads charset rows columns code old new spot e utf8 beyond h =
+    written_leads charset rows columns code (Spelled code) old new spot e (is_spelled charset code utf8 beyond) (λ state. ap (λ t. cond t (character_written columns state code) None) beyond) h
 
 -- the cursor to the first place, and then every place erased
-clear_leads : (rows columns : ℕ) (old : TerminalState) → IsSize rows columns
-    → Leads rows columns (negative_state old) (control_sequence [] 72 ++ control_sequence (50 ∷ []) 74) (negative_state (record old { grid = blank_grid rows columns; spot = At 0 0 }))
+clear_leads : (charset : Charset) (rows columns : ℕ) (old : TerminalState) → IsSize rows columns
+    → Leads charset rows columns (negative_state old) (control_sequence [] 72 ++ control_sequence (50 ∷ []) 74) (negative_state (record old { grid = blank_grid rows columns; spot = At 0 0 }))
 unfolding control_function
-clear_leads rows columns old size =
+clear_leads charset rows columns old size =
     let home : TerminalState = record (negative_state old) { spot = At 0 0 } in
     let blanked : TerminalState = negative_state (record old { grid = blank_grid rows columns; spot = At 0 0 }) in
     let inside : (nat_lt 0 rows && nat_lt 0 columns) ≡ true = grind (arith, nat_tests, size.some_rows, size.some_columns) in
-    leads-append rows columns (negative_state old) home blanked (control_sequence [] 72) (control_sequence (50 ∷ []) 74)
-    (bare_leads rows columns (negative_state old) home 72 (omega arith) (omega arith) (rw inside refl))
-    (sequence_leads rows columns home blanked (50 ∷ []) 74 (Some 2 ∷ []) (record { digits = (refl, tt); short = omega arith; from_at_sign = omega arith; to_tilde = omega arith }) refl
+    leads-append charset rows columns (negative_state old) home blanked (control_sequence [] 72) (control_sequence (50 ∷ []) 74)
+    (bare_leads charset rows columns (negative_state old) home 72 (omega arith) (omega arith) (rw inside refl))
+    (sequence_leads charset rows columns home blanked (50 ∷ []) 74 (Some 2 ∷ []) (record { digits = (refl, tt); short = omega arith; from_at_sign = omega arith; to_tilde = omega arith }) refl
     (ap (λ g. Some (record blanked { grid = g })) (sym (negative_blank rows columns))))
 
 -- SGR of one digit
-digit_leads : (rows columns : ℕ) (old : TerminalState) (digit : ℕ) (ns : List (Option ℕ)) (next : PenView) → IsTrue (is_parameter_byte digit)
-    → parameters_of (digit ∷ []) ≡ Some ns → renditions old.pen ns ≡ Some next → Leads rows columns old (control_sequence (digit ∷ []) 109) (record old { pen = next })
+digit_leads : (charset : Charset) (rows columns : ℕ) (old : TerminalState) (digit : ℕ) (ns : List (Option ℕ)) (next : PenView) → IsTrue (is_parameter_byte digit)
+    → parameters_of (digit ∷ []) ≡ Some ns → renditions old.pen ns ≡ Some next → Leads charset rows columns old (control_sequence (digit ∷ []) 109) (record old { pen = next })
 unfolding control_function
-digit_leads rows columns old digit ns next is read means =
-    sequence_leads rows columns old (record old { pen = next }) (digit ∷ []) 109 ns (record { digits = (is, tt); short = omega arith; from_at_sign = omega arith; to_tilde = omega arith }) read (rw means refl)
+digit_leads charset rows columns old digit ns next is read means =
+    sequence_leads charset rows columns old (record old { pen = next }) (digit ∷ []) 109 ns (record { digits = (is, tt); short = omega arith; from_at_sign = omega arith; to_tilde = omega arith }) read (rw means refl)
 
 -- the bits of a set of the seven attributes are below 128
 pub small_set : (set : ℕ) → bit_and 127 set ≡ set → set < 128
@@ -173,7 +186,7 @@ coloured_is old new pen (Margin r) h = absurd (no_state h)
 
 -- an operation leads from the negative of a state to the negative of another
 abbrev OpLeads : ProfileView → TerminalState → TerminalState → List ℕ → Type 0
-OpLeads profile old new bytes = Leads profile.rows profile.columns (negative_state old) bytes (negative_state new)
+OpLeads profile old new bytes = Leads profile.charset profile.rows profile.columns (negative_state old) bytes (negative_state new)
 
 vertical : (profile : ProfileView) → IsEcma48 profile → WritesDecimal → (old new : TerminalState) (n : ℕ) → 1 ≤ n → n ≤ 500
     → (moved_up profile.rows profile.columns old n ≡ Some new → OpLeads profile old new (piece_bytes profile (motion profile capability.Cuu1 capability.Cuu n)))
@@ -185,15 +198,15 @@ vertical profile is law old new n low few = (up, down)
     up h =
         let goes = negative_leads new (moved_up profile.rows profile.columns (negative_state old) n) (moved_up profile.rows profile.columns old n) (up_negative profile.rows profile.columns old n) h in
         either_motion profile is capability.Cuu1 capability.Cuu n (OpLeads profile old new) refl
-        (λ one. subst (OpLeads profile old new) (sym cuu1_text) (bare_leads profile.rows profile.columns (negative_state old) (negative_state new) 65 (omega arith) (omega arith) (ap (moved_up profile.rows profile.columns (negative_state old)) (sym one) ∙ goes)))
-        (subst (OpLeads profile old new) (sym (cuu_text law n (omega arith))) (counted_leads profile.rows profile.columns (negative_state old) (negative_state new) n 65 (omega arith) (omega arith) (omega arith) (counted n (moved_up profile.rows profile.columns (negative_state old)) low ∙ goes)))
+        (λ one. subst (OpLeads profile old new) (sym cuu1_text) (bare_leads profile.charset profile.rows profile.columns (negative_state old) (negative_state new) 65 (omega arith) (omega arith) (ap (moved_up profile.rows profile.columns (negative_state old)) (sym one) ∙ goes)))
+        (subst (OpLeads profile old new) (sym (cuu_text law n (omega arith))) (counted_leads profile.charset profile.rows profile.columns (negative_state old) (negative_state new) n 65 (omega arith) (omega arith) (omega arith) (counted n (moved_up profile.rows profile.columns (negative_state old)) low ∙ goes)))
 
     down : moved_down profile.rows profile.columns old n ≡ Some new → OpLeads profile old new (piece_bytes profile (motion profile capability.Cud1 capability.Cud n))
     down h =
         let goes = negative_leads new (moved_down profile.rows profile.columns (negative_state old) n) (moved_down profile.rows profile.columns old n) (down_negative profile.rows profile.columns old n) h in
         either_motion profile is capability.Cud1 capability.Cud n (OpLeads profile old new) refl
-        (λ one. subst (OpLeads profile old new) (sym cud1_text) (bare_leads profile.rows profile.columns (negative_state old) (negative_state new) 66 (omega arith) (omega arith) (ap (moved_down profile.rows profile.columns (negative_state old)) (sym one) ∙ goes)))
-        (subst (OpLeads profile old new) (sym (cud_text law n (omega arith))) (counted_leads profile.rows profile.columns (negative_state old) (negative_state new) n 66 (omega arith) (omega arith) (omega arith) (counted n (moved_down profile.rows profile.columns (negative_state old)) low ∙ goes)))
+        (λ one. subst (OpLeads profile old new) (sym cud1_text) (bare_leads profile.charset profile.rows profile.columns (negative_state old) (negative_state new) 66 (omega arith) (omega arith) (ap (moved_down profile.rows profile.columns (negative_state old)) (sym one) ∙ goes)))
+        (subst (OpLeads profile old new) (sym (cud_text law n (omega arith))) (counted_leads profile.charset profile.rows profile.columns (negative_state old) (negative_state new) n 66 (omega arith) (omega arith) (omega arith) (counted n (moved_down profile.rows profile.columns (negative_state old)) low ∙ goes)))
 
 horizontal : (profile : ProfileView) → IsEcma48 profile → WritesDecimal → (old new : TerminalState) (n : ℕ) → 1 ≤ n → n ≤ 500
     → (moved_left profile.rows profile.columns old n ≡ Some new → OpLeads profile old new (piece_bytes profile (motion profile capability.Cub1 capability.Cub n)))
@@ -205,15 +218,15 @@ horizontal profile is law old new n low few = (left, right)
     left h =
         let goes = negative_leads new (moved_left profile.rows profile.columns (negative_state old) n) (moved_left profile.rows profile.columns old n) (left_negative profile.rows profile.columns old n) h in
         either_motion profile is capability.Cub1 capability.Cub n (OpLeads profile old new) refl
-        (λ one. subst (OpLeads profile old new) (sym cub1_text) (unit_leads profile.rows profile.columns (negative_state old) (negative_state new) (Control 8) (inl refl) (ap (moved_left profile.rows profile.columns (negative_state old)) (sym one) ∙ goes)))
-        (subst (OpLeads profile old new) (sym (cub_text law n (omega arith))) (counted_leads profile.rows profile.columns (negative_state old) (negative_state new) n 68 (omega arith) (omega arith) (omega arith) (counted n (moved_left profile.rows profile.columns (negative_state old)) low ∙ goes)))
+        (λ one. subst (OpLeads profile old new) (sym cub1_text) (unit_leads profile.charset profile.rows profile.columns (negative_state old) (negative_state new) (Control 8) (inl refl) (ap (moved_left profile.rows profile.columns (negative_state old)) (sym one) ∙ goes)))
+        (subst (OpLeads profile old new) (sym (cub_text law n (omega arith))) (counted_leads profile.charset profile.rows profile.columns (negative_state old) (negative_state new) n 68 (omega arith) (omega arith) (omega arith) (counted n (moved_left profile.rows profile.columns (negative_state old)) low ∙ goes)))
 
     right : moved_right profile.rows profile.columns old n ≡ Some new → OpLeads profile old new (piece_bytes profile (motion profile capability.Cuf1 capability.Cuf n))
     right h =
         let goes = negative_leads new (moved_right profile.rows profile.columns (negative_state old) n) (moved_right profile.rows profile.columns old n) (right_negative profile.rows profile.columns old n) h in
         either_motion profile is capability.Cuf1 capability.Cuf n (OpLeads profile old new) refl
-        (λ one. subst (OpLeads profile old new) (sym cuf1_text) (bare_leads profile.rows profile.columns (negative_state old) (negative_state new) 67 (omega arith) (omega arith) (ap (moved_right profile.rows profile.columns (negative_state old)) (sym one) ∙ goes)))
-        (subst (OpLeads profile old new) (sym (cuf_text law n (omega arith))) (counted_leads profile.rows profile.columns (negative_state old) (negative_state new) n 67 (omega arith) (omega arith) (omega arith) (counted n (moved_right profile.rows profile.columns (negative_state old)) low ∙ goes)))
+        (λ one. subst (OpLeads profile old new) (sym cuf1_text) (bare_leads profile.charset profile.rows profile.columns (negative_state old) (negative_state new) 67 (omega arith) (omega arith) (ap (moved_right profile.rows profile.columns (negative_state old)) (sym one) ∙ goes)))
+        (subst (OpLeads profile old new) (sym (cuf_text law n (omega arith))) (counted_leads profile.charset profile.rows profile.columns (negative_state old) (negative_state new) n 67 (omega arith) (omega arith) (omega arith) (counted n (moved_right profile.rows profile.columns (negative_state old)) low ∙ goes)))
 
 -- an attribute more
 enter_leads : (profile : ProfileView) → IsEcma48 profile → (old : TerminalState) (a : ℕ) → old.pen.attrs < 128 → list_any (λ x. x == a) all_attributes ≡ true
@@ -224,7 +237,7 @@ enter_leads profile is old a small one =
     let leads : (n digit : ℕ) (c : Capability) (ns : List (Option ℕ)) (set : ℕ) → pieces profile (Enter (record { 0 = n })) ≡ text c ∷ [] → written (bundled_program c) (nine []) ≡ control_sequence (digit ∷ []) 109 → IsTrue (is_parameter_byte digit) → parameters_of (digit ∷ []) ≡ Some ns → renditions state.pen ns ≡ Some (record state.pen { attrs = set }) → set ≡ (negative_pen (with_attribute old.pen n)).attrs → P n =
     λ n digit c ns set sends writes is_digit read means same.
     subst (OpLeads profile old (record old { pen = with_attribute old.pen n })) (sym (one_text profile is (Enter (record { 0 = n })) c (nine []) (control_sequence (digit ∷ []) 109) sends writes))
-    (digit_leads profile.rows profile.columns state digit ns (negative_pen (with_attribute old.pen n)) is_digit read (means ∙ ap (λ s. Some (record state.pen { attrs = s })) same)) in
+    (digit_leads profile.charset profile.rows profile.columns state digit ns (negative_pen (with_attribute old.pen n)) is_digit read (means ∙ ap (λ s. Some (record state.pen { attrs = s })) same)) in
     each_attribute P
     (leads 1 55 capability.Smso (Some 7 ∷ []) (bit_or state.pen.attrs 4) refl smso_text refl refl refl (negative-or_standout old.pen.attrs small))
     (leads 2 52 capability.Smul (Some 4 ∷ []) (bit_or state.pen.attrs 2) refl smul_text refl refl refl (negative-or_underline old.pen.attrs small))
@@ -253,20 +266,20 @@ unfolding control_function
 leads_by profile is law adds old new s Home had sends h =
     let goes = negative_leads new (moved_to profile.rows profile.columns (negative_state old) 0 0) (moved_to profile.rows profile.columns old 0 0) (to_negative profile.rows profile.columns old 0 0) (chosen (profile.msgr || is_plain_pen old.pen) (moved_to profile.rows profile.columns old 0 0) new h).1 in
     subst (OpLeads profile old new) (sym (one_text profile is Home capability.Home (nine []) (control_sequence [] 72) refl home_text))
-    (bare_leads profile.rows profile.columns (negative_state old) (negative_state new) 72 (omega arith) (omega arith) goes)
+    (bare_leads profile.charset profile.rows profile.columns (negative_state old) (negative_state new) 72 (omega arith) (omega arith) goes)
 leads_by profile is law adds old new s (Move r c) had sends h =
     let hr : r < profile.rows = grind (arith, nat_tests) in
     let hc : c < profile.columns = grind (arith, nat_tests) in
     let goes = negative_leads new (moved_to profile.rows profile.columns (negative_state old) r c) (moved_to profile.rows profile.columns old r c) (to_negative profile.rows profile.columns old r c) (chosen (profile.msgr || is_plain_pen old.pen) (moved_to profile.rows profile.columns old r c) new h).1 in
     subst (OpLeads profile old new) (sym (one_text profile is (Move r c) capability.Cup (nine (pos r ∷ pos c ∷ [])) (control_sequence (decimal (r + 1) ++ 59 ∷ decimal (c + 1)) 72) refl (cup_text law adds r c (omega (arith, is.size.few_rows)) (omega (arith, is.size.few_columns)))))
-    (place_leads profile.rows profile.columns (negative_state old) (negative_state new) r c (omega (arith, is.size.few_rows)) (omega (arith, is.size.few_columns)) goes)
+    (place_leads profile.charset profile.rows profile.columns (negative_state old) (negative_state new) r c (omega (arith, is.size.few_rows)) (omega (arith, is.size.few_columns)) goes)
 leads_by profile is law adds old new s (Column c) had sends h =
     let hc : c < profile.columns = grind (arith, nat_tests) in
     let few : c ≤ 500 = omega (arith, is.size.few_columns) in
     let same : c + 1 - 1 ≡ c = omega arith in
     let goes = negative_leads new (moved_to_column profile.rows profile.columns (negative_state old) c) (moved_to_column profile.rows profile.columns old c) (column_negative profile.rows profile.columns old c) (chosen (profile.msgr || is_plain_pen old.pen) (moved_to_column profile.rows profile.columns old c) new h).1 in
     subst (OpLeads profile old new) (sym (one_text profile is (Column c) capability.Hpa (nine (pos c ∷ [])) (control_sequence (decimal (c + 1)) 71) refl (hpa_text law adds c (omega arith))))
-    (counted_leads profile.rows profile.columns (negative_state old) (negative_state new) (c + 1) 71 (omega arith) (omega arith) (omega arith)
+    (counted_leads profile.charset profile.rows profile.columns (negative_state old) (negative_state new) (c + 1) 71 (omega arith) (omega arith) (omega arith)
     (counted (c + 1) (λ n. moved_to_column profile.rows profile.columns (negative_state old) (n - 1)) (omega arith) ∙ ap (moved_to_column profile.rows profile.columns (negative_state old)) same ∙ goes))
 leads_by profile is law adds old new s (Line r) had sends h =
     let hr : r < profile.rows = grind (arith, nat_tests) in
@@ -274,7 +287,7 @@ leads_by profile is law adds old new s (Line r) had sends h =
     let same : r + 1 - 1 ≡ r = omega arith in
     let goes = negative_leads new (moved_to_row profile.rows profile.columns (negative_state old) r) (moved_to_row profile.rows profile.columns old r) (row_negative profile.rows profile.columns old r) (chosen (profile.msgr || is_plain_pen old.pen) (moved_to_row profile.rows profile.columns old r) new h).1 in
     subst (OpLeads profile old new) (sym (one_text profile is (Line r) capability.Vpa (nine (pos r ∷ [])) (control_sequence (decimal (r + 1)) 100) refl (vpa_text law adds r (omega arith))))
-    (counted_leads profile.rows profile.columns (negative_state old) (negative_state new) (r + 1) 100 (omega arith) (omega arith) (omega arith)
+    (counted_leads profile.charset profile.rows profile.columns (negative_state old) (negative_state new) (r + 1) 100 (omega arith) (omega arith) (omega arith)
     (counted (r + 1) (λ n. moved_to_row profile.rows profile.columns (negative_state old) (n - 1)) (omega arith) ∙ ap (moved_to_row profile.rows profile.columns (negative_state old)) same ∙ goes))
 leads_by profile is law adds old new s (Up n) had sends h =
     let few = is_count_of n had in
@@ -296,48 +309,48 @@ leads_by profile is law adds old new s (UpBy n) had sends h =
     let few = is_count_of n had in
     let goes = negative_leads new (moved_up profile.rows profile.columns (negative_state old) n) (moved_up profile.rows profile.columns old n) (up_negative profile.rows profile.columns old n) (chosen (profile.msgr || is_plain_pen old.pen) (moved_up profile.rows profile.columns old n) new h).1 in
     subst (OpLeads profile old new) (sym (one_text profile is (UpBy n) capability.Cuu (nine (pos n ∷ [])) (control_sequence (decimal n) 65) refl (cuu_text law n (omega (arith, few.1)))))
-    (counted_leads profile.rows profile.columns (negative_state old) (negative_state new) n 65 (omega (arith, few.1)) (omega arith) (omega arith)
+    (counted_leads profile.charset profile.rows profile.columns (negative_state old) (negative_state new) n 65 (omega (arith, few.1)) (omega arith) (omega arith)
     (counted n (moved_up profile.rows profile.columns (negative_state old)) few.0 ∙ goes))
 leads_by profile is law adds old new s (DownBy n) had sends h =
     let few = is_count_of n had in
     let goes = negative_leads new (moved_down profile.rows profile.columns (negative_state old) n) (moved_down profile.rows profile.columns old n) (down_negative profile.rows profile.columns old n) (chosen (profile.msgr || is_plain_pen old.pen) (moved_down profile.rows profile.columns old n) new h).1 in
     subst (OpLeads profile old new) (sym (one_text profile is (DownBy n) capability.Cud (nine (pos n ∷ [])) (control_sequence (decimal n) 66) refl (cud_text law n (omega (arith, few.1)))))
-    (counted_leads profile.rows profile.columns (negative_state old) (negative_state new) n 66 (omega (arith, few.1)) (omega arith) (omega arith)
+    (counted_leads profile.charset profile.rows profile.columns (negative_state old) (negative_state new) n 66 (omega (arith, few.1)) (omega arith) (omega arith)
     (counted n (moved_down profile.rows profile.columns (negative_state old)) few.0 ∙ goes))
 leads_by profile is law adds old new s (LeftBy n) had sends h =
     let few = is_count_of n had in
     let goes = negative_leads new (moved_left profile.rows profile.columns (negative_state old) n) (moved_left profile.rows profile.columns old n) (left_negative profile.rows profile.columns old n) (chosen (profile.msgr || is_plain_pen old.pen) (moved_left profile.rows profile.columns old n) new h).1 in
     subst (OpLeads profile old new) (sym (one_text profile is (LeftBy n) capability.Cub (nine (pos n ∷ [])) (control_sequence (decimal n) 68) refl (cub_text law n (omega (arith, few.1)))))
-    (counted_leads profile.rows profile.columns (negative_state old) (negative_state new) n 68 (omega (arith, few.1)) (omega arith) (omega arith)
+    (counted_leads profile.charset profile.rows profile.columns (negative_state old) (negative_state new) n 68 (omega (arith, few.1)) (omega arith) (omega arith)
     (counted n (moved_left profile.rows profile.columns (negative_state old)) few.0 ∙ goes))
 leads_by profile is law adds old new s (RightBy n) had sends h =
     let few = is_count_of n had in
     let goes = negative_leads new (moved_right profile.rows profile.columns (negative_state old) n) (moved_right profile.rows profile.columns old n) (right_negative profile.rows profile.columns old n) (chosen (profile.msgr || is_plain_pen old.pen) (moved_right profile.rows profile.columns old n) new h).1 in
     subst (OpLeads profile old new) (sym (one_text profile is (RightBy n) capability.Cuf (nine (pos n ∷ [])) (control_sequence (decimal n) 67) refl (cuf_text law n (omega (arith, few.1)))))
-    (counted_leads profile.rows profile.columns (negative_state old) (negative_state new) n 67 (omega (arith, few.1)) (omega arith) (omega arith)
+    (counted_leads profile.charset profile.rows profile.columns (negative_state old) (negative_state new) n 67 (omega (arith, few.1)) (omega arith) (omega arith)
     (counted n (moved_right profile.rows profile.columns (negative_state old)) few.0 ∙ goes))
 leads_by profile is law adds old new s Return had sends h =
     let goes = negative_leads new (moved_to_column profile.rows profile.columns (negative_state old) 0) (moved_to_column profile.rows profile.columns old 0) (column_negative profile.rows profile.columns old 0) (chosen (profile.msgr || is_plain_pen old.pen) (moved_to_column profile.rows profile.columns old 0) new h).1 in
     subst (OpLeads profile old new) (sym (one_text profile is Return capability.Cr (nine []) (13 ∷ []) refl cr_text))
-    (unit_leads profile.rows profile.columns (negative_state old) (negative_state new) (Control 13) (inr refl) goes)
+    (unit_leads profile.charset profile.rows profile.columns (negative_state old) (negative_state new) (Control 13) (inr refl) goes)
 leads_by profile is law adds old new s Clear had sends h =
     let next : TerminalState = record old { grid = blank_grid profile.rows profile.columns; spot = At 0 0 } in
     subst (λ z. OpLeads profile old z (bytes_of profile Clear)) (same_some next new (chosen (is_plain_pen old.pen) (Some next) new h).1)
     (subst (OpLeads profile old next) (sym (one_text profile is Clear capability.Clear (nine []) (control_sequence [] 72 ++ control_sequence (50 ∷ []) 74) refl clear_text))
-    (clear_leads profile.rows profile.columns old is.size))
+    (clear_leads profile.charset profile.rows profile.columns old is.size))
 leads_by profile is law adds old new s EraseLine had sends h =
     let goes = negative_leads new (rest_of_line_erased profile.rows profile.columns (negative_state old)) (rest_of_line_erased profile.rows profile.columns old) (line_negative profile.rows profile.columns old) (chosen (is_plain_pen old.pen) (rest_of_line_erased profile.rows profile.columns old) new h).1 in
     subst (OpLeads profile old new) (sym (one_text profile is EraseLine capability.El (nine []) (control_sequence [] 75) refl el_text))
-    (bare_leads profile.rows profile.columns (negative_state old) (negative_state new) 75 (omega arith) (omega arith) goes)
+    (bare_leads profile.charset profile.rows profile.columns (negative_state old) (negative_state new) 75 (omega arith) (omega arith) goes)
 leads_by profile is law adds old new s EraseBelow had sends h =
     let goes = negative_leads new (lines_below_erased profile.rows profile.columns (negative_state old)) (lines_below_erased profile.rows profile.columns old) (below_negative profile.rows profile.columns old) (chosen (is_plain_pen old.pen) (lines_below_erased profile.rows profile.columns old) new h).1 in
     subst (OpLeads profile old new) (sym (one_text profile is EraseBelow capability.Ed (nine []) (control_sequence [] 74) refl ed_text))
-    (bare_leads profile.rows profile.columns (negative_state old) (negative_state new) 74 (omega arith) (omega arith) (below_is profile.rows profile.columns (negative_state old) (negative_state new) goes))
+    (bare_leads profile.charset profile.rows profile.columns (negative_state old) (negative_state new) 74 (omega arith) (omega arith) (below_is profile.rows profile.columns (negative_state old) (negative_state new) goes))
 leads_by profile is law adds old new s (EraseChars n) had sends h =
     let few = is_count_of n had in
     let goes = negative_leads new (characters_erased profile.rows profile.columns (negative_state old) n) (characters_erased profile.rows profile.columns old n) (characters_negative profile.rows profile.columns old n) (chosen (is_plain_pen old.pen) (characters_erased profile.rows profile.columns old n) new h).1 in
     subst (OpLeads profile old new) (sym (one_text profile is (EraseChars n) capability.Ech (nine (pos n ∷ [])) (control_sequence (decimal n) 88) refl (ech_text law n (omega (arith, few.1)))))
-    (counted_leads profile.rows profile.columns (negative_state old) (negative_state new) n 88 (omega (arith, few.1)) (omega arith) (omega arith)
+    (counted_leads profile.charset profile.rows profile.columns (negative_state old) (negative_state new) n 88 (omega (arith, few.1)) (omega arith) (omega arith)
     (counted n (characters_erased profile.rows profile.columns (negative_state old)) few.0 ∙ goes))
 leads_by profile is law adds old new s (InsertLines n) had sends h = not_sent profile is capability.Il1 capability.Il n _ refl refl sends
 leads_by profile is law adds old new s (DeleteLines n) had sends h = not_sent profile is capability.Dl1 capability.Dl n _ refl refl sends
@@ -349,14 +362,14 @@ leads_by profile is law adds old new s Reset had sends h =
     let next : TerminalState = record old { pen = plain_pen } in
     subst (λ z. OpLeads profile old z (bytes_of profile Reset)) (same_some next new h)
     (subst (OpLeads profile old next) (sym (two_texts profile is Reset capability.Sgr0 (nine []) (control_sequence (48 ∷ []) 109) refl sgr0_text))
-    (leads-append profile.rows profile.columns (negative_state old) (negative_state next) (negative_state next) (control_sequence (48 ∷ []) 109) op_bytes
-    (digit_leads profile.rows profile.columns (negative_state old) 48 (Some 0 ∷ []) plain_pen refl refl refl)
-    (default_leads profile.rows profile.columns (negative_state next))))
+    (leads-append profile.charset profile.rows profile.columns (negative_state old) (negative_state next) (negative_state next) (control_sequence (48 ∷ []) 109) op_bytes
+    (digit_leads profile.charset profile.rows profile.columns (negative_state old) 48 (Some 0 ∷ []) plain_pen refl refl refl)
+    (default_leads profile.charset profile.rows profile.columns (negative_state next))))
 leads_by profile is law adds old new s ExitAttributes had sends h =
     let next : TerminalState = record old { pen = plain_pen } in
     subst (λ z. OpLeads profile old z (bytes_of profile ExitAttributes)) (same_some next new (chosen _ (Some next) new h).1)
     (subst (OpLeads profile old next) (sym (one_text profile is ExitAttributes capability.Sgr0 (nine []) (control_sequence (48 ∷ []) 109) refl sgr0_text))
-    (digit_leads profile.rows profile.columns (negative_state old) 48 (Some 0 ∷ []) plain_pen refl refl refl))
+    (digit_leads profile.charset profile.rows profile.columns (negative_state old) 48 (Some 0 ∷ []) plain_pen refl refl refl))
 leads_by profile is law adds old new s (Enter a) had sends h =
     let next : TerminalState = record old { pen = with_attribute old.pen a.0 } in
     let small : old.pen.attrs < 128 = small_set old.pen.attrs (let e : shown_set profile ≡ 127 = every_is_shown profile is in rw e at s.pen.attrs) in
@@ -367,23 +380,26 @@ leads_by profile is law adds old new s (Set a) had sends h =
     let few : a.0 < 128 = small_set a.0 (let e : shown_set profile ≡ 127 = every_is_shown profile is in let same : bit_and (shown_set profile) a.0 ≡ a.0 = eqb-true _ _ had in rw e at same) in
     subst (λ z. OpLeads profile old z (bytes_of profile (Set a))) (same_some next new h)
     (subst (OpLeads profile old next) (sym (two_texts profile is (Set a) capability.Sgr (renditions_of a.0) (control_sequence (rendition_parameters a.0) 109) refl (sgr_text a.0 few)))
-    (leads-append profile.rows profile.columns (negative_state old) (negative_state next) (negative_state next) (control_sequence (rendition_parameters a.0) 109) op_bytes
-    (set_leads profile.rows profile.columns (negative_state old) a.0 few)
-    (default_leads profile.rows profile.columns (negative_state next))))
+    (leads-append profile.charset profile.rows profile.columns (negative_state old) (negative_state next) (negative_state next) (control_sequence (rendition_parameters a.0) 109) op_bytes
+    (set_leads profile.charset profile.rows profile.columns (negative_state old) a.0 few)
+    (default_leads profile.charset profile.rows profile.columns (negative_state next))))
 leads_by profile is law adds old new s (Fore n) had sends h =
     let few : n < 8 = (let e = (both_true (nat_lt n 8) (has_colours profile) had).0 in grind (arith, nat_tests)) in
     subst (λ z. OpLeads profile old z (bytes_of profile (Fore n))) (coloured_is old new (record old.pen { foreground = Some n }) old.spot h)
     (subst (OpLeads profile old (record old { pen = record old.pen { foreground = Some n } })) (sym (one_text profile is (Fore n) capability.Setaf (nine (pos n ∷ [])) (control_sequence (51 ∷ decimal n) 109) refl (setaf_text law n (omega arith))))
-    (foreground_leads profile.rows profile.columns (negative_state old) n few))
+    (foreground_leads profile.charset profile.rows profile.columns (negative_state old) n few))
 leads_by profile is law adds old new s (Back n) had sends h =
     let few : n < 8 = (let e = (both_true (nat_lt n 8) (has_colours profile) had).0 in grind (arith, nat_tests)) in
     subst (λ z. OpLeads profile old z (bytes_of profile (Back n))) (coloured_is old new (record old.pen { background = Some n }) old.spot h)
     (subst (OpLeads profile old (record old { pen = record old.pen { background = Some n } })) (sym (one_text profile is (Back n) capability.Setab (nine (pos n ∷ [])) (control_sequence (52 ∷ decimal n) 109) refl (setab_text law n (omega arith))))
-    (background_leads profile.rows profile.columns (negative_state old) n few))
+    (background_leads profile.charset profile.rows profile.columns (negative_state old) n few))
 leads_by profile is law adds old new s (Put byte) had sends h =
     let low : 32 ≤ byte = grind (arith, nat_tests) in
     let high : byte ≤ 126 = grind (arith, nat_tests) in
-    subst (OpLeads profile old new) (sym (one_piece profile (Put byte) (Character byte) refl)) (put_leads profile.rows profile.columns byte old new old.spot refl low high h)
+    subst (OpLeads profile old new) (sym (one_piece profile (Put byte) (Character byte) refl)) (put_leads profile.charset profile.rows profile.columns byte old new old.spot refl low high h)
+leads_by profile is law adds old new s (Write code) had sends h =
+    let both = both_true (is_utf8 profile.charset) (is_beyond_ascii code) had in
+    subst (OpLeads profile old new) (sym (one_piece profile (Write code) (Spelled code) refl ∙ ap (λ t. cond t (encode_utf8 code) []) sends)) (spelled_leads profile.charset profile.rows profile.columns code old new old.spot refl both.0 both.1 h)
 leads_by profile is law adds old new s (Repeat byte n) had sends h = absurd (false≢true (sym (all_there profile is capability.Rep) ∙ sends))
 
 pub bytes_act_as_their_operation : WritesDecimal → AddsOne → BytesActAsTheirOperation

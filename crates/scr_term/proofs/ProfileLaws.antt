@@ -1,22 +1,28 @@
 -- What each profile shows and has.
-use Rattle.std.proofs.Common.{◌≡◌, ◌∙◌, ℕ, ◌&&◌, Bool, true, false, refl, sym, ap, subst, cond, filter, arith, List, [], ◌∷◌, bit_and, bit_or, nat_le, nat_lt}
+use Rattle.std.proofs.Common.{◌≡◌, ◌∙◌, ℕ, ◌&&◌, Bool, true, false, refl, sym, ap, subst, cond, encode_utf8, filter, arith, length, ◌<◌, ◌≤◌, List, [], ◌∷◌, bit_and, bit_or, nat_le, nat_lt}
 use Rattle.std.specs.List.{AllByRecursion}
 use Rattle.std.specs.Int.{bit_at}
 use Rattle.std.proofs.lemmas.Nat.{and_le_l, and_le_r}
 use Rattle.std.proofs.lemmas.Nat.Bits.{same_from_bits, bit_at_and, bit_at_or}
 use Rattle.std.proofs.lemmas.Bool.{eqb-true, false≢true}
+use Rattle.std.proofs.lemmas.Str.{encode_ascii, length-encode, len_utf8_bounds}
 use Rattle.std.proofs.lemmas.Bool.Decides.{nat_tests}
 use Rattle.scr_cells.specs.Attributes.{all_attributes}
-use Rattle.scr_cells.specs.Characters.{CharacterLaws, IsAscii, stand_in}
+use Rattle.scr_cells.specs.Characters.{CharacterLaws, IsAscii, IsCharacter, is_beyond_ascii, is_utf8, seen_character}
+use Rattle.scr_cells.specs.declared.charsets.Charset.{Charset}
+use Rattle.scr_cells.specs.declared.charsets.Charset.TheVariants.{Ascii, Utf8}
 use Rattle.scr_cells.specs.declared.attributes.Attrs.{Attrs}
-use Rattle.scr_term.specs.declared.operations.operation.Op.TheVariants.{Move, Clear, Reset, Enter, Set, Fore, Back, Put}
+use Rattle.scr_term.specs.declared.operations.operation.Op.TheVariants.{Move, Clear, Reset, Enter, Set, Fore, Back, Put, Write}
 use Rattle.scr_term.specs.declared.operations.operation.Op.{Op}
 use Rattle.scr_term.specs.declared.operations.capability.Capability.TheVariants.{Sgr0, Setaf, Setab}
 use Rattle.scr_term.specs.Operations.Abilities.{AreAbilities}
-use Rattle.scr_term.specs.Operations.Laws.{ProfilesHave, WritesStandIns}
+use Rattle.scr_term.specs.Operations.Laws.{ProfilesHave, WritesSeen}
 use Rattle.scr_term.specs.Operations.Profiles.{ProfileView, IsProfile, abilities, has_colours, is_shown, is_there, set_of, shown_set}
-use Rattle.scr_term.specs.Operations.Texts.{first_piece, has, is_attribute, is_sendable, is_within}
+use Rattle.scr_term.specs.Operations.Texts.{first_piece, bytes_of, has, is_attribute, is_sendable, is_within, put_of}
+use Rattle.scr_term.specs.Operations.States.{TerminalState, character_written}
+use Rattle.scr_term.specs.Operations.Steps.{act}
 use Rattle.scr_term.proofs.Attributes.{each_attribute}
+use Rattle.scr_term.proofs.RenderingLaws.{bytes_of_one, bytes_of_written}
 use Rattle.scr_term.proofs.ChoiceLaws.{and_true, both_true}
 use Rattle.scr_term.proofs.ShownPenLaws.{within-or}
 
@@ -158,9 +164,77 @@ abilities_are profile p = record { size = p.size; shown = shown_is_within profil
 put_had : (profile : ProfileView) → IsProfile profile → (byte : ℕ) → IsAscii byte → has profile (Put byte) ≡ true
 put_had profile p byte is = can_be_had profile (Put byte) (and_true (nat_le 32 byte) (nat_le byte 126) (grind (arith, nat_tests, is)) (grind (arith, nat_tests, is))) refl
 
-stand_ins_had : CharacterLaws → (profile : ProfileView) → IsProfile profile → WritesStandIns profile
-unfolding WritesStandIns
-stand_ins_had characters profile p code is = put_had profile p (stand_in code) (characters.stand_in code is)
+-- what writes a character, by whether it is one of ASCII
+put_of_ascii : (code : ℕ) → nat_lt code 128 ≡ true → put_of code ≡ Put code
+unfolding put_of
+put_of_ascii code few = ap (λ t. cond t (Put code) (Write code)) few
+
+put_of_other : (code : ℕ) → nat_lt code 128 ≡ false → put_of code ≡ Write code
+unfolding put_of
+put_of_other code many = ap (λ t. cond t (Put code) (Write code)) many
+
+seen_had : CharacterLaws → (profile : ProfileView) → IsProfile profile → WritesSeen profile
+unfolding WritesSeen
+seen_had characters profile p code is = by profile.charset refl
+  where
+    ascii : (seen : ℕ) → IsAscii seen → has profile (put_of seen) ≡ true
+    ascii seen one = let few : nat_lt seen 128 ≡ true = grind (arith, nat_tests, one) in ap (has profile) (put_of_ascii seen few) ∙ put_had profile p seen one
+
+    beyond : profile.charset ≡ Utf8 → (t : Bool) → nat_lt code 128 ≡ t → has profile (put_of code) ≡ true
+    beyond utf8 true few = ascii code (characters.below code (grind (arith, nat_tests, few)) is)
+    beyond utf8 false many =
+        let above : is_beyond_ascii code ≡ true = characters.beyond code is (grind (arith, nat_tests, many)) in
+        let written : (is_utf8 profile.charset && is_beyond_ascii code) ≡ true = and_true (is_utf8 profile.charset) (is_beyond_ascii code) (ap is_utf8 utf8) above in
+        ap (has profile) (put_of_other code many) ∙ can_be_had profile (Write code) written (ap is_utf8 utf8)
+
+    by : (charset : Charset) → profile.charset ≡ charset → has profile (put_of (seen_character profile.charset code)) ≡ true
+    by Ascii e = ap (λ c. has profile (put_of (seen_character c code))) e ∙ ascii (seen_character Ascii code) (characters.seen_ascii code is)
+    by Utf8 e = ap (λ c. has profile (put_of (seen_character c code))) e ∙ ap (λ n. has profile (put_of n)) (characters.seen_utf8 code) ∙ beyond e (nat_lt code 128) refl
+
+-- ---- what writes a character
+
+put_acts : (profile : ProfileView) (state : TerminalState) (code : ℕ) → act profile state (put_of code) ≡ character_written profile.columns state code
+put_acts profile state code = by (nat_lt code 128) refl
+  where
+    by : (t : Bool) → nat_lt code 128 ≡ t → act profile state (put_of code) ≡ character_written profile.columns state code
+    by true few = ap (act profile state) (put_of_ascii code few)
+    by false many = ap (act profile state) (put_of_other code many)
+
+put_byte : (profile : ProfileView) (byte : ℕ) → bytes_of profile (Put byte) ≡ byte ∷ []
+unfolding bytes_of
+put_byte profile byte = refl
+
+put_bytes : (profile : ProfileView) (code : ℕ) → has profile (put_of code) ≡ true → bytes_of profile (put_of code) ≡ encode_utf8 code
+put_bytes profile code had = by (nat_lt code 128) refl
+  where
+    by : (t : Bool) → nat_lt code 128 ≡ t → bytes_of profile (put_of code) ≡ encode_utf8 code
+    by true few = ap (bytes_of profile) (put_of_ascii code few) ∙ put_byte profile code ∙ sym (encode_ascii code (grind (arith, nat_tests, few)))
+    by false many =
+        let is : has profile (Write code) ≡ true = sym (ap (has profile) (put_of_other code many)) ∙ had in
+        ap (bytes_of profile) (put_of_other code many) ∙ bytes_of_written profile code is
+
+-- what is seen of any number has a byte at least
+low_some : (profile : ProfileView) (code : ℕ) → code < 128 → 1 ≤ length (bytes_of profile (put_of code))
+low_some profile code few =
+    let is : nat_lt code 128 ≡ true = grind (arith, nat_tests) in
+    let same : length (bytes_of profile (put_of code)) ≡ 1 = ap (λ op. length (bytes_of profile op)) (put_of_ascii code is) ∙ ap length (put_byte profile code) in
+    omega (arith, same)
+
+utf8_some : (profile : ProfileView) (code : ℕ) → profile.charset ≡ Utf8 → (t : Bool) → nat_lt code 128 ≡ t → 1 ≤ length (bytes_of profile (put_of code))
+utf8_some profile code utf8 true few = low_some profile code (grind (arith, nat_tests, few))
+utf8_some profile code utf8 false many =
+    let same : length (bytes_of profile (put_of code)) ≡ length (encode_utf8 code) =
+    ap (λ op. length (bytes_of profile op)) (put_of_other code many) ∙ ap length (bytes_of_one profile (Write code) refl) ∙ ap (λ c. length (cond (is_utf8 c) (encode_utf8 code) [])) utf8 in
+    omega (arith, same, length-encode code, (len_utf8_bounds code).0)
+
+pub seen_some : CharacterLaws → (profile : ProfileView) (code : ℕ) → 1 ≤ length (bytes_of profile (put_of (seen_character profile.charset code)))
+seen_some characters profile code = by profile.charset refl
+  where
+    by : (charset : Charset) → profile.charset ≡ charset → 1 ≤ length (bytes_of profile (put_of (seen_character profile.charset code)))
+    by Ascii e = subst (λ c. 1 ≤ length (bytes_of profile (put_of (seen_character c code)))) (sym e) (low_some profile (seen_character Ascii code) (characters.low code))
+    by Utf8 e = subst (λ c. 1 ≤ length (bytes_of profile (put_of (seen_character c code)))) (sym e) (subst (λ n. 1 ≤ length (bytes_of profile (put_of n))) (sym (characters.seen_utf8 code)) (utf8_some profile code e (nat_lt code 128) refl))
+
+-- ---- all of it
 
 pub profiles_have_hold : CharacterLaws → ProfilesHave
 profiles_have_hold characters profile p = record {
@@ -168,7 +242,9 @@ profiles_have_hold characters profile p = record {
   move = λ r c row_in column_in. can_be_had profile (Move r c) (and_true (nat_lt r profile.rows) (nat_lt c profile.columns) (grind (arith, nat_tests)) (grind (arith, nat_tests))) p.cup;
   clear = can_be_had profile Clear refl p.clear;
   put = put_had profile p;
-  stand_ins = stand_ins_had characters profile p;
+  seen = seen_had characters profile p;
+  put_acts = put_acts profile;
+  put_bytes = put_bytes profile;
   reset = λ there. can_be_had profile Reset refl there;
   enter = λ a one shown.
       let is = shown_is_shown profile a one shown in

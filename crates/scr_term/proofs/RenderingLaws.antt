@@ -1,11 +1,14 @@
 -- The bytes of an operation by its pieces.
-use Rattle.std.proofs.Common.{◌≡◌, ◌+◌, ◌≤◌, ◌&&◌, false, true, [], ◌∷◌, ◌++◌, List, ℕ, OnErr, Result, Ok, Err, Some, None, ap, append_assoc, arith, cond, length, length-append, refl, sym, ◌∙◌}
+use Rattle.std.proofs.Common.{◌≡◌, ◌+◌, ◌≤◌, ◌&&◌, false, true, [], ◌∷◌, ◌++◌, List, ℕ, OnErr, Result, Ok, Err, Some, None, ap, append_assoc, arith, cond, encode_utf8, length, length-append, refl, sym, ◌∙◌}
 use Rattle.std.specs.List.{flat_map}
 use Rattle.std.proofs.lemmas.List.{append-nil}
 use Rattle.scr_term.specs.declared.operations.capability.Capability.TheVariants as capability
+use Rattle.scr_cells.specs.Characters.{is_beyond_ascii, is_utf8}
 use Rattle.scr_term.specs.declared.operations.operation.Op.{Op}
+use Rattle.scr_term.specs.declared.operations.operation.Op.TheVariants.{Write}
 use Rattle.scr_term.specs.Operations.Pieces.{Piece}
 use Rattle.scr_term.specs.Operations.Profiles.{ProfileView, has_colours}
+use Rattle.scr_term.proofs.ChoiceLaws.{both_true}
 use Rattle.scr_term.specs.Operations.Texts.{bytes_of, first_piece, has, is_sendable, is_within, piece_bytes, resets_colours, text}
 
 -- where the colours stay, one piece is sent
@@ -14,6 +17,13 @@ pub bytes_of_one : (profile : ProfileView) (op : Op) → (resets_colours op && h
 unfolding bytes_of
 bytes_of_one profile op h =
     ap (λ t. flat_map (piece_bytes profile) (first_piece profile op ∷ (cond t (text capability.Op ∷ []) []))) h ∙ append-nil (piece_bytes profile (first_piece profile op))
+
+-- a character above ASCII
+pub bytes_of_written : (profile : ProfileView) (code : ℕ) → has profile (Write code) ≡ true → bytes_of profile (Write code) ≡ encode_utf8 code
+unfolding has
+bytes_of_written profile code had =
+    let both : is_utf8 profile.charset ≡ true = (both_true (is_utf8 profile.charset && is_beyond_ascii code) (is_utf8 profile.charset) had).1 in
+    bytes_of_one profile (Write code) refl ∙ ap (λ t. cond t (encode_utf8 code) []) both
 
 -- where they become the default ones, two
 pub bytes_of_two : (profile : ProfileView) (op : Op) → (resets_colours op && has_colours profile) ≡ true

@@ -7,6 +7,7 @@ use Rattle.std.proofs.lemmas.Bool.{agree_below_at, eqb-true, false≢true}
 use Rattle.std.proofs.lemmas.Bool.Decides.{nat_tests}
 use Rattle.scr_cells.specs.Attributes.{negative_set}
 use Rattle.scr_cells.specs.PenViews.{PenView, plain_pen}
+use Rattle.scr_cells.specs.declared.charsets.Charset.{Charset}
 use Rattle.scr_term.specs.Operations.States.{TerminalState}
 use Rattle.scr_term.specs.Ecma.Units.{is_parameter_byte}
 use Rattle.scr_term.specs.Ecma.Meanings.{Leads, control_function, parameters_of, renditions}
@@ -57,23 +58,23 @@ all_set : (set : ℕ) → set < 128 → sets_them set ≡ true
 all_set set small = agree_below_at sets_them (λ _. true) 128 set refl small
 
 -- `sgr` of a set turns on that set, standout as reverse, and makes the colours the default ones
-pub set_leads : (rows columns : ℕ) (old : TerminalState) (set : ℕ) → set < 128
-    → Leads rows columns old (control_sequence (rendition_parameters set) 109) (record old { pen = pen_of (negative_set set) })
+pub set_leads : (charset : Charset) (rows columns : ℕ) (old : TerminalState) (set : ℕ) → set < 128
+    → Leads charset rows columns old (control_sequence (rendition_parameters set) 109) (record old { pen = pen_of (negative_set set) })
 unfolding control_function
-set_leads rows columns old set small =
+set_leads charset rows columns old set small =
     let both = both_true _ (is_pen_of (pen_after (parameters_of (rendition_parameters set))) (negative_set set)) (all_set set small) in
     let bytes = both_true (list_all is_parameter_byte (rendition_parameters set)) (nat_le (length (rendition_parameters set)) 61) both.0 in
     let short : length (rendition_parameters set) ≤ 61 = (let e = bytes.1 in grind (arith, nat_tests)) in
     let any = pen_after-any (parameters_of (rendition_parameters set)) old.pen (pen_of (negative_set set)) (is_pen (pen_after (parameters_of (rendition_parameters set))) (negative_set set) both.1) in
-    sequence_leads rows columns old (record old { pen = pen_of (negative_set set) }) (rendition_parameters set) 109 any.0
+    sequence_leads charset rows columns old (record old { pen = pen_of (negative_set set) }) (rendition_parameters set) 109 any.0
     (record { digits = each_byte (rendition_parameters set) bytes.0; short = short; from_at_sign = omega arith; to_tilde = omega arith })
     any.1 (rw any.2 refl)
 
 -- `op` makes the colours the default ones
-pub default_leads : (rows columns : ℕ) (old : TerminalState) → Leads rows columns old (control_sequence (51 ∷ 57 ∷ 59 ∷ 52 ∷ 57 ∷ []) 109) (record old { pen = pen_of old.pen.attrs })
+pub default_leads : (charset : Charset) (rows columns : ℕ) (old : TerminalState) → Leads charset rows columns old (control_sequence (51 ∷ 57 ∷ 59 ∷ 52 ∷ 57 ∷ []) 109) (record old { pen = pen_of old.pen.attrs })
 unfolding control_function
-default_leads rows columns old =
-    sequence_leads rows columns old (record old { pen = pen_of old.pen.attrs }) (51 ∷ 57 ∷ 59 ∷ 52 ∷ 57 ∷ []) 109 (Some 39 ∷ Some 49 ∷ [])
+default_leads charset rows columns old =
+    sequence_leads charset rows columns old (record old { pen = pen_of old.pen.attrs }) (51 ∷ 57 ∷ 59 ∷ 52 ∷ 57 ∷ []) 109 (Some 39 ∷ Some 49 ∷ [])
     (record { digits = (refl, (refl, (refl, (refl, (refl, tt))))); short = omega arith; from_at_sign = omega arith; to_tilde = omega arith })
     refl refl
 
@@ -89,13 +90,13 @@ each_colour P a b c d e f g h n less =
         by true e = subst P (sym (eqb-true n k e)) here
         by false e = there (λ same. false≢true (sym e ∙ (grind (arith, nat_tests))))
 
-pub foreground_leads : (rows columns : ℕ) (old : TerminalState) (n : ℕ) → n < 8 → Leads rows columns old (control_sequence (51 ∷ decimal n) 109) (record old { pen = record old.pen { foreground = Some n } })
+pub foreground_leads : (charset : Charset) (rows columns : ℕ) (old : TerminalState) (n : ℕ) → n < 8 → Leads charset rows columns old (control_sequence (51 ∷ decimal n) 109) (record old { pen = record old.pen { foreground = Some n } })
 unfolding control_function digits
-foreground_leads rows columns old =
-    let leads : (ds : List ℕ) (n : ℕ) → AllByRecursion (λ byte. IsTrue (is_parameter_byte byte)) ds → length ds ≤ 1 → parameters_of (51 ∷ ds) ≡ Some (Some (30 + n) ∷ []) → renditions old.pen (Some (30 + n) ∷ []) ≡ Some (record old.pen { foreground = Some n }) → Leads rows columns old (control_sequence (51 ∷ ds) 109) (record old { pen = record old.pen { foreground = Some n } }) =
-    λ ds n are short read means. sequence_leads rows columns old (record old { pen = record old.pen { foreground = Some n } }) (51 ∷ ds) 109 (Some (30 + n) ∷ [])
+foreground_leads charset rows columns old =
+    let leads : (ds : List ℕ) (n : ℕ) → AllByRecursion (λ byte. IsTrue (is_parameter_byte byte)) ds → length ds ≤ 1 → parameters_of (51 ∷ ds) ≡ Some (Some (30 + n) ∷ []) → renditions old.pen (Some (30 + n) ∷ []) ≡ Some (record old.pen { foreground = Some n }) → Leads charset rows columns old (control_sequence (51 ∷ ds) 109) (record old { pen = record old.pen { foreground = Some n } }) =
+    λ ds n are short read means. sequence_leads charset rows columns old (record old { pen = record old.pen { foreground = Some n } }) (51 ∷ ds) 109 (Some (30 + n) ∷ [])
     (record { digits = (refl, are); short = omega arith; from_at_sign = omega arith; to_tilde = omega arith }) read (rw means refl) in
-    each_colour (λ n. Leads rows columns old (control_sequence (51 ∷ decimal n) 109) (record old { pen = record old.pen { foreground = Some n } }))
+    each_colour (λ n. Leads charset rows columns old (control_sequence (51 ∷ decimal n) 109) (record old { pen = record old.pen { foreground = Some n } }))
     (leads (48 ∷ []) 0 (refl, tt) (omega arith) refl refl)
     (leads (49 ∷ []) 1 (refl, tt) (omega arith) refl refl)
     (leads (50 ∷ []) 2 (refl, tt) (omega arith) refl refl)
@@ -105,13 +106,13 @@ foreground_leads rows columns old =
     (leads (54 ∷ []) 6 (refl, tt) (omega arith) refl refl)
     (leads (55 ∷ []) 7 (refl, tt) (omega arith) refl refl)
 
-pub background_leads : (rows columns : ℕ) (old : TerminalState) (n : ℕ) → n < 8 → Leads rows columns old (control_sequence (52 ∷ decimal n) 109) (record old { pen = record old.pen { background = Some n } })
+pub background_leads : (charset : Charset) (rows columns : ℕ) (old : TerminalState) (n : ℕ) → n < 8 → Leads charset rows columns old (control_sequence (52 ∷ decimal n) 109) (record old { pen = record old.pen { background = Some n } })
 unfolding control_function digits
-background_leads rows columns old =
-    let leads : (ds : List ℕ) (n : ℕ) → AllByRecursion (λ byte. IsTrue (is_parameter_byte byte)) ds → length ds ≤ 1 → parameters_of (52 ∷ ds) ≡ Some (Some (40 + n) ∷ []) → renditions old.pen (Some (40 + n) ∷ []) ≡ Some (record old.pen { background = Some n }) → Leads rows columns old (control_sequence (52 ∷ ds) 109) (record old { pen = record old.pen { background = Some n } }) =
-    λ ds n are short read means. sequence_leads rows columns old (record old { pen = record old.pen { background = Some n } }) (52 ∷ ds) 109 (Some (40 + n) ∷ [])
+background_leads charset rows columns old =
+    let leads : (ds : List ℕ) (n : ℕ) → AllByRecursion (λ byte. IsTrue (is_parameter_byte byte)) ds → length ds ≤ 1 → parameters_of (52 ∷ ds) ≡ Some (Some (40 + n) ∷ []) → renditions old.pen (Some (40 + n) ∷ []) ≡ Some (record old.pen { background = Some n }) → Leads charset rows columns old (control_sequence (52 ∷ ds) 109) (record old { pen = record old.pen { background = Some n } }) =
+    λ ds n are short read means. sequence_leads charset rows columns old (record old { pen = record old.pen { background = Some n } }) (52 ∷ ds) 109 (Some (40 + n) ∷ [])
     (record { digits = (refl, are); short = omega arith; from_at_sign = omega arith; to_tilde = omega arith }) read (rw means refl) in
-    each_colour (λ n. Leads rows columns old (control_sequence (52 ∷ decimal n) 109) (record old { pen = record old.pen { background = Some n } }))
+    each_colour (λ n. Leads charset rows columns old (control_sequence (52 ∷ decimal n) 109) (record old { pen = record old.pen { background = Some n } }))
     (leads (48 ∷ []) 0 (refl, tt) (omega arith) refl refl)
     (leads (49 ∷ []) 1 (refl, tt) (omega arith) refl refl)
     (leads (50 ∷ []) 2 (refl, tt) (omega arith) refl refl)

@@ -5,12 +5,12 @@ use Rattle.std.proofs.lemmas.List.Concat.{flat_map-append}
 use Rattle.std.proofs.lemmas.List.Elements.{All-from_recursion}
 use Rattle.std.proofs.lemmas.Bool.{eqb-true}
 use Rattle.std.proofs.lemmas.Bool.Decides.{nat_tests}
-use Rattle.scr_cells.specs.Characters.{is_ascii}
+use Rattle.scr_cells.specs.Characters.{CharacterLaws, IsCharacter, is_ascii, is_beyond_ascii, is_utf8}
 use Rattle.scr_cells.specs.Grids.{grid_at, grid_with, grid_with_run, is_in_run, places_left, places_right, rows_down, rows_up}
 use Rattle.scr_cells.specs.LookViews.{LookView, IsLook, blank}
 use Rattle.scr_cells.specs.PenViews.{PenView, is_plain_pen, plain_pen}
 use Rattle.scr_term.specs.declared.operations.operation.Op.{Op}
-use Rattle.scr_term.specs.declared.operations.operation.Op.TheVariants.{Home, Move, Column, Line, Up, Down, Left, Right, UpBy, DownBy, LeftBy, RightBy, Return, Clear, EraseLine, EraseBelow, EraseChars, InsertLines, DeleteLines, InsertChars, DeleteChars, ScrollUp, ScrollDown, Reset, ExitAttributes, Enter, Set, Fore, Back, Put, Repeat}
+use Rattle.scr_term.specs.declared.operations.operation.Op.TheVariants.{Home, Move, Column, Line, Up, Down, Left, Right, UpBy, DownBy, LeftBy, RightBy, Return, Clear, EraseLine, EraseBelow, EraseChars, InsertLines, DeleteLines, InsertChars, DeleteChars, ScrollUp, ScrollDown, Reset, ExitAttributes, Enter, Set, Fore, Back, Put, Write, Repeat}
 use Rattle.scr_term.specs.declared.operations.operation.Spot.{Spot}
 use Rattle.scr_term.specs.declared.operations.operation.Spot.TheVariants.{At, Margin}
 use Rattle.scr_term.specs.Operations.Abilities.{Abilities, AreAbilities}
@@ -19,9 +19,10 @@ use Rattle.scr_term.specs.Operations.States.{TerminalState, AreShownColours, IsS
 use Rattle.scr_term.specs.Operations.Steps.{act, erasure_made, motion_made, step, runs}
 use Rattle.scr_term.specs.Operations.Texts.{bytes_of, has, is_repetition}
 use Rattle.scr_term.specs.Operations.Laws.{BlankLaws, RunLaws, StepsKeepStates}
+use Rattle.scr_term.proofs.CharacterLaws.{ascii_is_character, beyond_is_character}
 use Rattle.scr_term.proofs.ChoiceLaws.{both_true, chosen, no_some, same_some, then_some}
 use Rattle.scr_term.proofs.LookGridLaws.{all_blank, down_is_look, filled_all, filled_is_grid, formed_all, formed_is_grid, is_blank, left_is_look, negative_blank, put_all, put_is_grid, right_is_look, run_all, run_is_grid, up_is_look}
-use Rattle.scr_term.proofs.ProfileLaws.{abilities_are, entered_is_shown, is_had}
+use Rattle.scr_term.proofs.ProfileLaws.{abilities_are, entered_is_shown, is_had, seen_some}
 use Rattle.scr_term.proofs.ShownPenLaws.{more_is_shown, plain_is_shown, set_is_shown, shown_is_pen}
 
 -- ---- states with another spot, another pen, or some places erased
@@ -83,14 +84,14 @@ to_keeps a old r c s =
     (λ test. some_keeps a _ (moved a old (At r c) s (grind (arith, nat_tests, test), grind (arith, nat_tests, test))))
 
 put_keeps : (a : Abilities) → AreAbilities a → (old : TerminalState) → IsState a old
-    → (byte : ℕ) (spot : Spot) → IsSpot a.rows a.columns spot → 32 ≤ byte → byte ≤ 126
-    → Keeps a (written_at a.columns old byte spot)
-put_keeps a are old s byte (Margin r) inside low high = none_keeps a
-put_keeps a are old s byte (At r c) inside low high =
-    let look : LookView = record { character = byte; pen = old.pen } in
+    → (code : ℕ) (spot : Spot) → IsSpot a.rows a.columns spot → IsCharacter code
+    → Keeps a (written_at a.columns old code spot)
+put_keeps a are old s code (Margin r) inside is = none_keeps a
+put_keeps a are old s code (At r c) inside is =
+    let look : LookView = record { character = code; pen = old.pen } in
     some_keeps a (record { grid = grid_with old.grid r c look; spot = spot_after a.columns r c; pen = old.pen }) (record {
       whole = put_is_grid a.rows a.columns old.grid r c look s.whole;
-      looks = put_all a.rows a.columns old.grid r c look s.whole inside.0 (record { character = (low, high); pen = shown_is_pen a are.shown old.pen s.pen }) s.looks;
+      looks = put_all a.rows a.columns old.grid r c look s.whole inside.0 (record { character = is; pen = shown_is_pen a are.shown old.pen s.pen }) s.looks;
       spot = next_spot (nat_lt (c + 1) a.columns) refl;
       pen = s.pen;
     })
@@ -103,7 +104,7 @@ repeat_keeps : (a : Abilities) → AreAbilities a → (old : TerminalState) → 
     → IsState a (record old { grid = grid_with_run old.grid r c (replicate n (record { character = byte; pen = old.pen })); spot = At r (c + n) })
 repeat_keeps a are old s byte n r c low high row_in fits =
     let look : LookView = record { character = byte; pen = old.pen } in
-    let is : IsLook look = record { character = (low, high); pen = shown_is_pen a are.shown old.pen s.pen } in
+    let is : IsLook look = record { character = ascii_is_character byte low high; pen = shown_is_pen a are.shown old.pen s.pen } in
     record {
       whole = run_is_grid a.rows a.columns old.grid r c n look s.whole row_in (omega (arith, fits));
       looks = run_all a.rows a.columns old.grid r c n look s.whole row_in is s.looks;
@@ -197,7 +198,10 @@ keeps profile p old s (Put byte) had =
     let within = (is_had profile (Put byte) had).0 in
     let low : 32 ≤ byte = grind (arith, nat_tests, within) in
     let high : byte ≤ 126 = grind (arith, nat_tests, within) in
-    put_keeps (abilities profile) (abilities_are profile p) old s byte old.spot s.spot low high
+    put_keeps (abilities profile) (abilities_are profile p) old s byte old.spot s.spot (ascii_is_character byte low high)
+keeps profile p old s (Write code) had =
+    let both = both_true (is_utf8 profile.charset) (is_beyond_ascii code) (is_had profile (Write code) had).0 in
+    put_keeps (abilities profile) (abilities_are profile p) old s code old.spot s.spot (beyond_is_character code both.1)
 keeps profile p old s (Repeat byte n) had =
     let is : is_ascii byte ≡ true = (both_true (is_ascii byte) (is_repetition n) (is_had profile (Repeat byte n) had).0).0 in
     let low : 32 ≤ byte = grind (arith, nat_tests, is) in
@@ -244,13 +248,14 @@ runs-after : (profile : ProfileView) (ops more : List Op) (old : TerminalState) 
 runs-after profile [] more old = refl
 runs-after profile (op ∷ ops) more old = after_step profile ops more (step profile old op) (runs-after profile ops more)
 
-pub run_laws_hold : RunLaws
-run_laws_hold = record {
+pub run_laws_hold : CharacterLaws → RunLaws
+run_laws_hold characters = record {
   after = λ profile old ops more. runs-after profile ops more old;
   joined = runs-append;
   bytes = λ profile ops more. flat_map-append (bytes_of profile) ops more;
   kept = runs_keep;
   had = λ profile old new ops h. All-from_recursion (λ op. has profile op ≡ true) ops (each_had profile old new ops h);
+  some = seen_some characters;
 }
 
 pub blank_laws_hold : BlankLaws

@@ -1,5 +1,7 @@
 -- How the code admits an entry: nothing that a reader has to believe.
 use Rattle.std.specs.Prelude.{ℕ, ◌≡◌, ◌+◌, ◌-◌, ◌^◌, ◌⊎◌, All, IfSome, Bool, false, min, max, List, [], ◌∷◌, Option, Some, None, Result, slice_index_or, if◌then◌else◌}
+use Rattle.scr_cells.specs.declared.charsets.Charset.{Charset}
+use Rattle.scr_cells.specs.declared.charsets.Charset.TheVariants.{Ascii, Utf8}
 use Rattle.ti_caps.specs.Description.{Description}
 use Rattle.ti_param.specs.Tree.{Tree, bound}
 use Rattle.scr_term.specs.declared.operations.capability.Capability.{Capability}
@@ -29,7 +31,7 @@ program_in programs capability = slice_index_or programs (ordinal capability) No
 
 -- a profile of these programs, whatever its size
 abbrev pub with_programs : Bool → List (Option Tree) → ProfileView
-with_programs palette programs = record { rows = 1; columns = 1; programs = programs; msgr = false; palette = palette }
+with_programs palette programs = record { rows = 1; columns = 1; programs = programs; msgr = false; palette = palette; charset = Ascii }
 
 -- how many bytes a program can write, as far as the code counts
 abbrev pub counted_bound : Option Tree → ℕ
@@ -41,9 +43,15 @@ abbrev pub greatest_bound : ℕ → List (Option Tree) → ℕ
 greatest_bound least [] = least
 greatest_bound least (program ∷ programs) = greatest_bound (max least (counted_bound program)) programs
 
--- the most bytes that an operation can send: where there are colours, `op` may follow another text
-abbrev pub longest : Bool → List (Option Tree) → ℕ
-longest colours programs = if colours then greatest_bound 1 programs + counted_bound (program_in programs Op) else greatest_bound 1 programs
+-- the most bytes of a scalar value
+abbrev pub longest_character : Charset → ℕ
+longest_character Ascii = 1
+longest_character Utf8 = 4
+
+-- the most bytes that an operation can send, if a character has this many: where there are colours, `op` may follow
+-- another text
+abbrev pub longest : ℕ → Bool → List (Option Tree) → ℕ
+longest least colours programs = if colours then greatest_bound least programs + counted_bound (program_in programs Op) else greatest_bound least programs
 
 -- each program keeps to the limits
 abbrev pub ArePlanned : List (Option Tree) → Type 0

@@ -3,11 +3,13 @@
 use Rattle.std.specs.Prelude.{ℕ, ◌≡◌, ◌-◌, ◌==◌, ◌&&◌, nat_le, List, [], ◌∷◌, Option, Some, None, option_and_then, option_map, unwrap_or, if◌then◌else◌}
 use Rattle.std.specs.List.{slice_split}
 use Rattle.std.specs.Str.Parse.{digits_value}
+use Rattle.scr_cells.specs.declared.charsets.Charset.{Charset}
+use Rattle.scr_cells.specs.Characters.{is_beyond_ascii}
 use Rattle.scr_cells.specs.Attributes.{underline, reverse, blink, dim, bold, invis}
 use Rattle.scr_cells.specs.LookViews.{blank_grid}
 use Rattle.scr_cells.specs.PenViews.{PenView, plain_pen, with_attribute}
 use Rattle.scr_term.specs.Operations.States.{TerminalState, character_written, characters_erased, erased, from_place, is_from_place, moved_down, moved_left, moved_right, moved_to, moved_to_column, moved_to_row, moved_up, rest_of_line_erased}
-use Rattle.scr_term.specs.Ecma.Units.{EcmaUnit, Graphic, Control, Sequence, IsDivision}
+use Rattle.scr_term.specs.Ecma.Units.{EcmaUnit, Graphic, Spelled, Control, Sequence, IsDivision}
 
 -- A parameter: absent, or a number up to 9,999; greater ones are undefined.
 abbrev pub parameter : List ℕ → Option (Option ℕ)
@@ -115,9 +117,10 @@ control_character rows columns state byte =
     if byte == 8 then moved_left rows columns state 1 else
     (if byte == 13 then moved_to_column rows columns state 0 else None)
 
--- The state after a unit; none if the unit is undefined there.
+-- The state after a unit; none if the unit is undefined there, as what is no character of one column is.
 abbrev pub meaning : ℕ → ℕ → TerminalState → EcmaUnit → Option TerminalState
 meaning rows columns state (Graphic byte) = character_written columns state byte
+meaning rows columns state (Spelled code) = if is_beyond_ascii code then character_written columns state code else None
 meaning rows columns state (Control byte) = control_character rows columns state byte
 meaning rows columns state (Sequence bytes final) =
     option_and_then (λ ns. control_function rows columns state ns final) (parameters_of bytes)
@@ -128,7 +131,7 @@ meanings rows columns state [] = Some state
 meanings rows columns state (unit ∷ units) = option_and_then (λ next. meanings rows columns next units) (meaning rows columns state unit)
 
 -- The text consists of whole units that are all defined, and they lead from the state `old` to `new`.
-pub record Leads (rows columns : ℕ) (old : TerminalState) (text : List ℕ) (new : TerminalState) : Type 0 where
+pub record Leads (charset : Charset) (rows columns : ℕ) (old : TerminalState) (text : List ℕ) (new : TerminalState) : Type 0 where
   pub units : List EcmaUnit
-  pub division : IsDivision text units []
+  pub division : IsDivision charset text units []
   pub meaning : meanings rows columns old units ≡ Some new

@@ -4,6 +4,8 @@ use Rattle.std.specs.List.{list_any}
 use Rattle.std.specs.Option.{is_some, is_none}
 use Rattle.scr_cells.specs.declared.sizes.Size.{Size}
 use Rattle.scr_cells.specs.PictureViews.{IsSize}
+use Rattle.scr_cells.specs.declared.charsets.Charset.{Charset}
+use Rattle.scr_cells.specs.declared.charsets.Charset.TheVariants.{Ascii}
 use Rattle.ti_caps.specs.Bundled.{IsBundled}
 use Rattle.ti_caps.specs.Description.{Description, flag_at, number_at, text_at}
 use Rattle.ti_caps.specs.Table.{or_else}
@@ -94,14 +96,15 @@ is_zero_or_absent (Some n) = n == 0
 abbrev pub has_palette : Description → Bool
 has_palette entry = is_at_least 8 (number_at entry COLORS.0) && is_at_least 64 (number_at entry PAIRS.0) && is_zero_or_absent (number_at entry NCV.0)
 
--- The profile that the entry makes on a screen of this size.
-unfoldable pub admitted : Description → ℕ → ℕ → ProfileView
-admitted entry rows columns = record {
+-- The profile that the entry makes on a screen of this size that is sent these characters.
+unfoldable pub admitted : Charset → Description → ℕ → ℕ → ProfileView
+admitted charset entry rows columns = record {
   rows = rows;
   columns = columns;
   programs = map (planned_program entry) each_capability ++ map (spare_program entry) each_spare;
   msgr = flag_at entry MSGR.0;
   palette = has_palette entry;
+  charset = charset;
 }
 
 -- ---- the refusals, in their order
@@ -216,14 +219,18 @@ unfoldable pub refusal : Description → Option Size → Option ProfileFault
 refusal entry size = first_some (refusals entry size)
 
 -- The entry makes this profile on a screen of this size.
-abbrev pub admitted_on : Description → Option (ℕ × ℕ) → ProfileView → Type 0
-admitted_on entry None profile = ⊥
-admitted_on entry (Some size) profile = profile ≡ admitted entry size.0 size.1
+abbrev pub admitted_on : Charset → Description → Option (ℕ × ℕ) → ProfileView → Type 0
+admitted_on charset entry None profile = ⊥
+admitted_on charset entry (Some size) profile = profile ≡ admitted charset entry size.0 size.1
 
 -- Nothing is against the entry, and this is its profile.
-pub record IsAdmitted (entry : Description) (size : Option Size) (profile : ProfileView) : Type 0 where
+pub record IsAdmittedAs (charset : Charset) (entry : Description) (size : Option Size) (profile : ProfileView) : Type 0 where
   pub suits : refusal entry size ≡ None
-  pub made : admitted_on entry (screen_size entry size) profile
+  pub made : admitted_on charset entry (screen_size entry size) profile
+
+-- The same for a terminal that has ASCII alone.
+abbrev pub IsAdmitted : Description → Option Size → ProfileView → Type 0
+IsAdmitted entry size profile = IsAdmittedAs Ascii entry size profile
 
 -- The refusal is the first reason that applies, or memory ran out.
 abbrev pub IsRefused : Description → Option Size → ProfileFault → Type 0
@@ -239,7 +246,7 @@ pub record IsEcma48 (profile : ProfileView) : Type 0 where
   pub size : IsSize profile.rows profile.columns
   pub entry : Description
   pub bundled : IsBundled entry
-  pub made : profile ≡ admitted entry profile.rows profile.columns
+  pub made : profile ≡ admitted profile.charset entry profile.rows profile.columns
 
 -- The bundled entry makes this profile on a screen of this size, and nothing is against it.
 abbrev pub IsBundledAdmitted : Size → ProfileView → Type 0

@@ -1,7 +1,7 @@
 -- The laws of operations, of runs and of their bytes.
-use Rattle.std.specs.Prelude.{ℕ, ◌≡◌, ◌++◌, ◌<◌, Bool, true, false, List, All, Some, option_and_then, bit_and}
+use Rattle.std.specs.Prelude.{ℕ, ◌≡◌, ◌++◌, ◌<◌, Bool, true, false, List, All, Some, option_and_then, bit_and, encode_utf8, length, ◌≤◌}
 use Rattle.scr_cells.specs.Attributes.{every_attribute}
-use Rattle.scr_cells.specs.Characters.{IsAscii, IsCharacter, stand_in}
+use Rattle.scr_cells.specs.Characters.{IsAscii, IsCharacter, seen_character}
 use Rattle.scr_cells.specs.Grids.{IsGrid, grid_at, grid_filled, grid_of, grid_with, places_left, places_right, rows_down, rows_up}
 use Rattle.scr_cells.specs.LookViews.{IsLook, LookView, blank, blank_grid}
 use Rattle.scr_cells.specs.PenViews.{IsPen, PenView, plain_pen, with_attribute}
@@ -10,9 +10,9 @@ use Rattle.scr_term.specs.declared.operations.capability.Capability.TheVariants.
 use Rattle.scr_term.specs.Operations.Abilities.{Abilities, AreAbilities}
 use Rattle.scr_term.specs.Operations.Admission.{IsEcma48}
 use Rattle.scr_term.specs.Operations.Profiles.{ProfileView, IsProfile, abilities, has_colours, is_there, shown_set}
-use Rattle.scr_term.specs.Operations.States.{TerminalState, IsShownPen, IsState, blank_state, negative_state}
-use Rattle.scr_term.specs.Operations.Steps.{step, runs}
-use Rattle.scr_term.specs.Operations.Texts.{has, is_attribute, bytes_of, all_bytes}
+use Rattle.scr_term.specs.Operations.States.{TerminalState, IsShownPen, IsState, blank_state, character_written, negative_state}
+use Rattle.scr_term.specs.Operations.Steps.{act, step, runs}
+use Rattle.scr_term.specs.Operations.Texts.{has, is_attribute, bytes_of, all_bytes, put_of}
 use Rattle.scr_term.specs.Ecma.Meanings.{Leads}
 use Rattle.scr_term.specs.declared.operations.operation.Op.{Op}
 use Rattle.scr_term.specs.declared.operations.operation.Op.TheVariants.{Move, Clear, Reset, Enter, Set, Fore, Back, Put}
@@ -23,7 +23,7 @@ BytesActAsTheirOperation =
     (profile : ProfileView) → IsEcma48 profile
     → (old new : TerminalState) → IsState (abilities profile) old
     → (op : Op) → step profile old op ≡ Some new
-    → Leads profile.rows profile.columns (negative_state old) (bytes_of profile op) (negative_state new)
+    → Leads profile.charset profile.rows profile.columns (negative_state old) (bytes_of profile op) (negative_state new)
 
 -- The same for the bytes of several operations, one after another.
 abbrev pub BytesActAsTheirOperations : Type 0
@@ -31,7 +31,7 @@ BytesActAsTheirOperations =
     (profile : ProfileView) → IsEcma48 profile
     → (old new : TerminalState) → IsState (abilities profile) old
     → (ops : List Op) → runs profile old ops ≡ Some new
-    → Leads profile.rows profile.columns (negative_state old) (all_bytes profile ops) (negative_state new)
+    → Leads profile.charset profile.rows profile.columns (negative_state old) (all_bytes profile ops) (negative_state new)
 
 -- An operation leads from a state of the profile to a state of the profile.
 abbrev pub StepsKeepStates : Type 0
@@ -42,7 +42,8 @@ StepsKeepStates =
     → IsState (abilities profile) new
 
 -- A run of two lists is the second run after the first, also where the first is undefined; their bytes are joined
--- likewise. A run leads from a state of the profile to one, and only has operations that the profile has.
+-- likewise. A run leads from a state of the profile to one, and only has operations that the profile has. What writes what
+-- is seen of a character has a byte at least.
 pub record RunLaws : Type 0 where
   pub after : (profile : ProfileView) (old : TerminalState) (ops more : List Op) → runs profile old (ops ++ more) ≡ option_and_then (λ next. runs profile next more) (runs profile old ops)
   pub joined : (profile : ProfileView) (old next : TerminalState) (ops more : List Op) → runs profile old ops ≡ Some next → runs profile old (ops ++ more) ≡ runs profile next more
@@ -50,25 +51,28 @@ pub record RunLaws : Type 0 where
   pub kept : (profile : ProfileView) → IsProfile profile → (old new : TerminalState) → IsState (abilities profile) old
       → (ops : List Op) → runs profile old ops ≡ Some new → IsState (abilities profile) new
   pub had : (profile : ProfileView) (old new : TerminalState) (ops : List Op) → runs profile old ops ≡ Some new → All (λ op. has profile op ≡ true) ops
+  pub some : (profile : ProfileView) (code : ℕ) → 1 ≤ length (bytes_of profile (put_of (seen_character profile.charset code)))
 
 -- A blank screen is a state of each profile, and its own negative.
 pub record BlankLaws : Type 0 where
   pub state : (profile : ProfileView) → IsProfile profile → IsState (abilities profile) (blank_state profile.rows profile.columns)
   pub negative : (rows columns : ℕ) → negative_state (blank_state rows columns) ≡ blank_state rows columns
 
--- A profile can write what stands in for each character.
-unfoldable pub WritesStandIns : ProfileView → Type 0
-WritesStandIns profile = (code : ℕ) → IsCharacter code → has profile (Put (stand_in code)) ≡ true
+-- A profile can write what is seen of each character.
+unfoldable pub WritesSeen : ProfileView → Type 0
+WritesSeen profile = (code : ℕ) → IsCharacter code → has profile (put_of (seen_character profile.charset code)) ≡ true
 
 -- What can be relied on: a profile can move the cursor everywhere, clear the screen and write each character of ASCII,
--- and what stands in for another. It can turn on each attribute and set each colour that it shows, and reset them;
--- without `sgr0` it shows none.
+-- and what is seen of another, each in UTF-8. It can turn on each attribute and set each colour that it shows, and reset
+-- them; without `sgr0` it shows none.
 pub record HasLaws (profile : ProfileView) : Type 0 where
   pub can_show : AreAbilities (abilities profile)
   pub move : (r c : ℕ) → r < profile.rows → c < profile.columns → has profile (Move r c) ≡ true
   pub clear : has profile Clear ≡ true
   pub put : (byte : ℕ) → IsAscii byte → has profile (Put byte) ≡ true
-  pub stand_ins : WritesStandIns profile
+  pub seen : WritesSeen profile
+  pub put_acts : (state : TerminalState) (code : ℕ) → act profile state (put_of code) ≡ character_written profile.columns state code
+  pub put_bytes : (code : ℕ) → has profile (put_of code) ≡ true → bytes_of profile (put_of code) ≡ encode_utf8 code
   pub reset : is_there profile Sgr0 ≡ true → has profile Reset ≡ true
   pub enter : (a : ℕ) → is_attribute a ≡ true → bit_and (shown_set profile) a ≡ a → has profile (Enter (record { 0 = a })) ≡ true
   pub fore : (n : ℕ) → n < 8 → has_colours profile ≡ true → has profile (Fore n) ≡ true

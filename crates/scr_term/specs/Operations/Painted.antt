@@ -9,7 +9,7 @@ use Rattle.scr_term.specs.declared.operations.operation.Spot.TheVariants.{At}
 
 -- What is seen of a cell on a terminal with these abilities, if the pairs have these colours.
 abbrev pub seen_on : Abilities → List (Option ℕ × Option ℕ) → CellView → LookView
-seen_on abilities pairs = seen abilities.shown abilities.colours pairs
+seen_on abilities pairs = seen abilities.charset abilities.shown abilities.colours pairs
 
 -- What is seen of the picture's cell, at every place.
 abbrev pub painted : Abilities → PictureView → List (List LookView)

@@ -3,6 +3,7 @@ use Rattle.std.specs.Prelude.{ℕ, ◌≡◌, ◌≤◌, ◌==◌, ◌&&◌, Boo
 use Rattle.std.specs.Option.{is_some}
 use Rattle.scr_cells.specs.Attributes.{all_attributes, standout, underline, reverse, blink, dim, bold}
 use Rattle.scr_cells.specs.PictureViews.{IsSize}
+use Rattle.scr_cells.specs.declared.charsets.Charset.{Charset}
 use Rattle.ti_param.specs.Tree.{Tree, bound, depth}
 use Rattle.scr_term.specs.declared.operations.capability.Capability.{Capability}
 use Rattle.scr_term.specs.declared.operations.capability.Capability.TheVariants.{Clear, Cup, Blink, Bold, Dim, Invis, Rev, Smso, Smul, Sgr0, Op, Setaf, Setab}
@@ -10,14 +11,15 @@ use Rattle.scr_term.specs.Operations.Abilities.{Abilities}
 use Rattle.scr_term.specs.Operations.Capabilities.{ordinal}
 
 -- A profile: the size of the screen; for each capability that operations send, the program of its text, or none;
--- whether the cursor may be moved while an attribute or a colour is on (`msgr`); and whether the entry promises eight
--- colours and 64 pairs.
+-- whether the cursor may be moved while an attribute or a colour is on (`msgr`); whether the entry promises eight
+-- colours and 64 pairs; and the characters that it is sent.
 pub record ProfileView : Type 0 where
   pub rows : ℕ
   pub columns : ℕ
   pub programs : List (Option Tree)
   pub msgr : Bool
   pub palette : Bool
+  pub charset : Charset
 
 -- The program of a capability, if there is one.
 abbrev pub program_of : ProfileView → Capability → Option Tree
@@ -55,7 +57,13 @@ has_colours profile = profile.palette && is_there profile Sgr0 && is_there profi
 
 -- What the profile's screen can show.
 abbrev pub abilities : ProfileView → Abilities
-abilities profile = record { rows = profile.rows; columns = profile.columns; shown = shown_set profile; colours = has_colours profile }
+abilities profile = record {
+  rows = profile.rows;
+  columns = profile.columns;
+  charset = profile.charset;
+  shown = shown_set profile;
+  colours = has_colours profile;
+}
 
 -- No run needs a stack of more than 20, and none sends more than 1,024 bytes.
 pub record IsPlanned (program : Tree) : Type 0 where

@@ -8,7 +8,7 @@ use Rattle.scr_term.specs.Operations.Profiles.{ProfileView}
 use Rattle.scr_term.specs.Operations.States.{TerminalState, character_repeated, character_written, characters_deleted, characters_erased, characters_inserted, erased, from_place, is_from_place, lines_deleted, lines_inserted, moved_down, moved_left, moved_right, moved_to, moved_to_column, moved_to_row, moved_up, rest_of_line_erased, scrolled_down, scrolled_up}
 use Rattle.scr_term.specs.Operations.Texts.{has}
 use Rattle.scr_term.specs.declared.operations.operation.Op.{Op}
-use Rattle.scr_term.specs.declared.operations.operation.Op.TheVariants.{Home, Move, Column, Line, Up, Down, Left, Right, UpBy, DownBy, LeftBy, RightBy, Return, Clear, EraseLine, EraseBelow, EraseChars, InsertLines, DeleteLines, InsertChars, DeleteChars, ScrollUp, ScrollDown, Reset, ExitAttributes, Enter, Set, Fore, Back, Put, Repeat}
+use Rattle.scr_term.specs.declared.operations.operation.Op.TheVariants.{Home, Move, Column, Line, Up, Down, Left, Right, UpBy, DownBy, LeftBy, RightBy, Return, Clear, EraseLine, EraseBelow, EraseChars, InsertLines, DeleteLines, InsertChars, DeleteChars, ScrollUp, ScrollDown, Reset, ExitAttributes, Enter, Set, Fore, Back, Put, Write, Repeat}
 use Rattle.scr_term.specs.declared.operations.operation.Spot.TheVariants.{At}
 
 -- A motion; with an attribute or a colour on, it is defined only if the terminal has `msgr`.
@@ -64,6 +64,7 @@ act profile state (Set a) = Some (record state { pen = record plain_pen { attrs 
 act profile state (Fore n) = coloured state (record state.pen { foreground = Some n })
 act profile state (Back n) = coloured state (record state.pen { background = Some n })
 act profile state (Put byte) = character_written profile.columns state byte
+act profile state (Write code) = character_written profile.columns state code
 act profile state (Repeat byte n) = character_repeated profile.columns state byte n
 
 -- The state after an operation; none if it is undefined.

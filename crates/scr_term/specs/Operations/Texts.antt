@@ -1,17 +1,21 @@
 -- What each operation sends: a character, or the texts of capabilities with their parameters. terminfo(5), 'Basic
 -- Capabilities', 'Cursor Motions', 'Area Clears', 'Scrolling', 'Highlighting', 'Color Handling' and 'Miscellaneous'.
-use Rattle.std.specs.Prelude.{ℕ, ◌==◌, ◌&&◌, Bool, true, false, nat_lt, nat_le, ℤ, pos, List, [], ◌∷◌, ◌++◌, map, take, replicate, Option, Some, None, bit_and, if◌then◌else◌}
+use Rattle.std.specs.Prelude.{ℕ, ◌==◌, ◌&&◌, Bool, true, false, nat_lt, nat_le, ℤ, pos, List, [], ◌∷◌, ◌++◌, map, take, replicate, Option, Some, None, bit_and, encode_utf8, if◌then◌else◌}
 use Rattle.std.specs.List.{flat_map, list_any}
 use Rattle.scr_cells.specs.Attributes.{all_attributes, standout, underline, reverse, blink, dim, bold, invis}
-use Rattle.scr_cells.specs.Characters.{is_ascii}
+use Rattle.scr_cells.specs.Characters.{is_ascii, is_beyond_ascii, is_utf8}
 use Rattle.ti_param.specs.States.{Outcome}
 use Rattle.ti_param.specs.Tree.{Tree, start, value}
 use Rattle.scr_term.specs.declared.operations.capability.Capability.{Capability}
 use Rattle.scr_term.specs.declared.operations.capability.Capability.TheVariants as capability
 use Rattle.scr_term.specs.declared.operations.operation.Op.{Op}
-use Rattle.scr_term.specs.declared.operations.operation.Op.TheVariants.{Home, Move, Column, Line, Up, Down, Left, Right, UpBy, DownBy, LeftBy, RightBy, Return, Clear, EraseLine, EraseBelow, EraseChars, InsertLines, DeleteLines, InsertChars, DeleteChars, ScrollUp, ScrollDown, Reset, ExitAttributes, Enter, Set, Fore, Back, Put, Repeat}
-use Rattle.scr_term.specs.Operations.Pieces.{Piece, Character, Text}
+use Rattle.scr_term.specs.declared.operations.operation.Op.TheVariants.{Home, Move, Column, Line, Up, Down, Left, Right, UpBy, DownBy, LeftBy, RightBy, Return, Clear, EraseLine, EraseBelow, EraseChars, InsertLines, DeleteLines, InsertChars, DeleteChars, ScrollUp, ScrollDown, Reset, ExitAttributes, Enter, Set, Fore, Back, Put, Write, Repeat}
+use Rattle.scr_term.specs.Operations.Pieces.{Piece, Character, Spelled, Text}
 use Rattle.scr_term.specs.Operations.Profiles.{ProfileView, entering, has_colours, is_shown, is_there, program_of, shown_set}
+
+-- What writes a character: it is put as a byte if it is one of ASCII.
+unfoldable pub put_of : ℕ → Op
+put_of code = if nat_lt code 128 then Put code else Write code
 
 -- The nine parameters of a text: these first, and zeros after them.
 abbrev pub nine : List ℤ → List ℤ
@@ -73,6 +77,7 @@ first_piece profile (Set a) = Text capability.Sgr (renditions_of a.0)
 first_piece profile (Fore n) = text_of_one capability.Setaf n
 first_piece profile (Back n) = text_of_one capability.Setab n
 first_piece profile (Put byte) = Character byte
+first_piece profile (Write code) = Spelled code
 first_piece profile (Repeat byte n) = text_of_two capability.Rep byte n
 
 -- After these operations the colours are the default ones.
@@ -86,9 +91,10 @@ abbrev pub pieces : ProfileView → Op → List Piece
 pieces profile op =
     first_piece profile op ∷ (if resets_colours op && has_colours profile then text capability.Op ∷ [] else [])
 
--- The terminal can be sent this piece: any character, and the texts that it has.
+-- The terminal has the text of this piece, or is sent UTF-8; every character of ASCII is sent.
 abbrev pub is_sendable : ProfileView → Piece → Bool
 is_sendable profile (Character byte) = true
+is_sendable profile (Spelled code) = is_utf8 profile.charset
 is_sendable profile (Text capability parameters) = is_there profile capability
 
 -- The numbers by which the cursor can be moved and lines scroll, and of lines and characters that are erased, inserted
@@ -109,7 +115,8 @@ is_attribute set = list_any (λ a. a == set) all_attributes
 abbrev pub is_shown_colour : ProfileView → ℕ → Bool
 is_shown_colour profile n = nat_lt n 8 && has_colours profile
 
--- The operation's numbers are within the screen, its attributes and colours are shown, and its byte is a character.
+-- The operation's numbers are within the screen, its attributes and colours are shown, and its byte is a character of
+-- ASCII, or its character one above that, if the terminal is sent such.
 abbrev pub is_within : ProfileView → Op → Bool
 is_within profile (Move r c) = nat_lt r profile.rows && nat_lt c profile.columns
 is_within profile (Column c) = nat_lt c profile.columns
@@ -134,6 +141,7 @@ is_within profile (Set a) = bit_and (shown_set profile) a.0 == a.0
 is_within profile (Fore n) = is_shown_colour profile n
 is_within profile (Back n) = is_shown_colour profile n
 is_within profile (Put byte) = is_ascii byte
+is_within profile (Write code) = is_utf8 profile.charset && is_beyond_ascii code
 is_within profile (Repeat byte n) = is_ascii byte && is_repetition n
 is_within profile Home = true
 is_within profile Return = true
@@ -157,9 +165,11 @@ abbrev pub written : Option Tree → List ℤ → List ℕ
 written None parameters = []
 written (Some program) parameters = bytes_in (value program (start parameters (replicate 26 (pos 0))))
 
--- The bytes of a piece.
+-- The bytes of a piece. There are none for a text that the terminal does not have, nor for what is spelled in UTF-8 where
+-- it is not sent such.
 abbrev pub piece_bytes : ProfileView → Piece → List ℕ
 piece_bytes profile (Character byte) = byte ∷ []
+piece_bytes profile (Spelled code) = if is_utf8 profile.charset then encode_utf8 code else []
 piece_bytes profile (Text capability parameters) = written (program_of profile capability) parameters
 
 -- The bytes that are sent for an operation.

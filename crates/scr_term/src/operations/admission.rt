@@ -3,7 +3,7 @@ ghost use Rattle.std.specs.Prelude.{◌≡◌, ◌≢◌, ◌≤◌, ◌++◌, �
 ghost use Rattle.ti_caps.specs.Description.{text_at};
 ghost use Rattle.ti_param.specs.Parsed.{parsed};
 ghost use Rattle.ti_param.specs.Tree.{depth};
-ghost use Rattle.scr_term.specs.Operations.Admission.{IsAdmitted, IsBundledAdmitted, IsEcma48, IsJudged, IsRefused, IsSuitable, bad_text, first_where, is_bad_string, is_missing, is_over_bound, is_present, margin_fault, missing_fault, named_text, planned_program, program_at, screen_size, sent_at, sent_text, size_fault, unsuitable_fault};
+ghost use Rattle.scr_term.specs.Operations.Admission.{IsAdmitted, IsAdmittedAs, IsBundledAdmitted, IsEcma48, IsJudged, IsRefused, IsSuitable, bad_text, first_where, is_bad_string, is_missing, is_over_bound, is_present, margin_fault, missing_fault, named_text, planned_program, program_at, screen_size, sent_at, sent_text, size_fault, unsuitable_fault};
 ghost use Rattle.scr_term.specs.Operations.Capabilities.{slot_of};
 ghost use Rattle.scr_term.specs.Code.Admission.{Judges, program_in};
 
@@ -11,7 +11,7 @@ use crate::operations::capability::Capability;
 use crate::operations::making::profile;
 use crate::operations::spares::with_spares;
 use crate::{Profile, ProfileFault};
-use scr_cells::{NoMemory, Size};
+use scr_cells::{Charset, NoMemory, Size};
 use std::alloc::Global;
 use ti_caps::{Entry, Kind, Slot, bundled, slots};
 use ti_param::{ParamFault, Program, padding_is_removed, strip_padding, text_is_parsed};
@@ -67,6 +67,22 @@ impl Profile {
         ensures suitable { IfOk result (λ _. IsSuitable entry.now) }
         ensures memory { IsErrOf result ProfileFault.NoMemory → IsSuitable entry.now }
     {
+        Profile::admit_as(alloc, entry, size, Charset::Ascii)
+    }
+
+    /// The same for a terminal that is sent the characters of a charset; `admit` is it with ASCII. The
+    /// refusals are those of `admit`, in the same order.
+    pub fn admit_as(
+        alloc: Global,
+        entry: &Entry,
+        size: Option<Size>,
+        charset: Charset,
+    ) -> Result<Profile, ProfileFault>
+        ensures ok { IfOk result (IsAdmittedAs charset entry.now size) }
+        ensures err { IfErr result (IsRefused entry.now size) }
+        ensures suitable { IfOk result (λ _. IsSuitable entry.now) }
+        ensures memory { IsErrOf result ProfileFault.NoMemory → IsSuitable entry.now }
+    {
         is_suitable(entry)?;
         keeps_its_margin(entry)?;
         has_needed_texts(alloc, entry)?;
@@ -78,7 +94,7 @@ impl Profile {
         if let Some(capability) = first_long(&programs, &Capability::EACH) {
             return Err(ProfileFault::LongString((Kind::Text, capability.slot())));
         }
-        Ok(profile(entry, size, programs).priced(entry))
+        Ok(profile(entry, size, charset, programs).priced(entry))
     }
 
     /// The profile of the bundled ECMA-48 entry on a screen of this size, which is what `admit`

@@ -7,8 +7,8 @@ ghost use Rattle.scr_term.specs.Operations.Laws.{BlankLaws, BytesActAsTheirOpera
 use scr_cells::character_laws;
 use ti_param::{increment_adds_one, number_writes_decimal};
 
-/// What every profile has: it moves the cursor anywhere, clears the screen and writes every
-/// character of ASCII. If it has `sgr0` it can reset; it can turn on each attribute and set each colour that
+/// What every profile has: it moves the cursor anywhere, clears the screen and writes what is seen
+/// of every character. If it has `sgr0` it can reset; it can turn on each attribute and set each colour that
 /// it shows. Without `sgr0` it shows none.
 pub fn profiles_have()
     ensures { ProfilesHave }
@@ -38,7 +38,7 @@ pub fn bytes_act_as_their_operations()
     bytes_act_as_their_operation();
 }
 
-/// The profile of the bundled ECMA-48 entry is determined by its size, and shows every attribute
+/// The profile of the bundled ECMA-48 entry is determined by its size and its charset, and shows every attribute
 /// and colours.
 pub fn ecma48_laws()
     ensures { Ecma48Laws }
@@ -52,10 +52,12 @@ pub fn bundled_is_ecma48()
 
 /// Runs of operations can be joined, also if the first is undefined, and so can their bytes. A run
 /// leads from a state of a profile to a state of the same profile, and has only operations that the
-/// profile has.
+/// profile has. What writes what is seen of a character sends a byte at least.
 pub fn run_laws()
     ensures { RunLaws }
-{}
+{
+    character_laws();
+}
 
 /// A blank screen with no attribute on is a state of each profile, and its own negative.
 pub fn blank_laws()

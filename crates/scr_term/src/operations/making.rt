@@ -1,36 +1,42 @@
 //! The profile of an entry that has passed all checks: what it shows, and how long its texts can
 //! be.
-ghost use Rattle.std.specs.Prelude.{◌≡◌, ◌++◌, false, is_some, map, filter, length};
+ghost use Rattle.std.specs.Prelude.{◌≡◌, ◌≤◌, ◌++◌, false, is_some, map, filter, length};
 ghost use Rattle.scr_term.specs.Operations.Admission.{admitted, has_palette, planned_program, spare_program};
 ghost use Rattle.scr_term.specs.Operations.Capabilities.{each_capability, each_spare};
 ghost use Rattle.scr_term.specs.Operations.Profiles.{has_colours, is_shown, set_of};
-ghost use Rattle.scr_term.specs.Code.Admission.{ArePlanned, AreTexts, counted_bound, greatest_bound, longest, program_in, with_programs};
+ghost use Rattle.scr_term.specs.Code.Admission.{ArePlanned, AreTexts, counted_bound, greatest_bound, longest, longest_character, program_in, with_programs};
 
 use crate::Profile;
 use crate::operations::capability::Capability;
 use crate::operations::pieces::entering;
 use crate::operations::prices::Prices;
 use bitflags::Flags;
-use scr_cells::{Attrs, Size};
+use scr_cells::{Attrs, Charset, Size};
 use ti_caps::{Entry, slots};
 use ti_param::{Program, text_is_bounded};
 
 /// The profile of an entry that has passed all checks.
-pub(crate) fn profile(entry: &Entry, size: Size, programs: Vec<Option<Program>>) -> Profile
+pub(crate) fn profile(
+    entry: &Entry,
+    size: Size,
+    charset: Charset,
+    programs: Vec<Option<Program>>,
+) -> Profile
     requires texts { AreTexts entry.now }
     requires programs { programs.items ≡ map (planned_program entry.now) each_capability ++ map (spare_program entry.now) each_spare }
-    ensures { result ≡ admitted entry.now size.rows size.columns }
+    ensures { result ≡ admitted charset entry.now size.rows size.columns }
 {
     text_is_bounded();
     let palette = has_palette(entry);
     let shown = shown_set(&programs, &Attrs::EACH);
     let colours = has_colours(palette, &programs);
-    let longest = longest(&programs, colours);
+    let longest = longest(longest_character(charset), &programs, colours);
     Profile {
         size,
         programs,
         msgr: entry.flag(slots::MSGR),
         palette,
+        charset,
         shown,
         colours,
         longest,
@@ -98,13 +104,26 @@ fn has_colours(palette: bool, programs: &[Option<Program>]) -> bool
         && is_there(programs, Capability::Setab)
 }
 
-// A bound on the bytes of any operation. If there are colours, `op` may follow another text.
-fn longest(programs: &[Option<Program>], colours: bool) -> usize
+// The most bytes of a scalar value.
+fn longest_character(charset: Charset) -> usize
+    ensures value { result ≡ longest_character charset }
+    ensures few { result ≤ 4 }
+{
+    match charset {
+        Charset::Ascii => 1,
+        Charset::Utf8 => 4,
+    }
+}
+
+// A bound on the bytes of any operation, if a character has at most `least`. If there are colours,
+// `op` may follow another text.
+fn longest(least: usize, programs: &[Option<Program>], colours: bool) -> usize
+    requires few { least ≤ 4 }
     requires whole { length programs.now ≡ 41 }
     requires planned { ArePlanned programs.now }
-    ensures { result ≡ longest colours programs.now }
+    ensures { result ≡ longest least colours programs.now }
 {
-    let one = greatest_bound(programs);
+    let one = greatest_bound(least, programs);
     if colours {
         one + bound_of(programs, Capability::Op)
     } else {
@@ -120,11 +139,11 @@ fn bound_of(programs: &[Option<Program>], capability: Capability) -> usize
     counted_bound(&programs[capability.ordinal()])
 }
 
-// The most bytes that any of these programs can give, and at least 1, for a character.
-fn greatest_bound(programs: &[Option<Program>]) -> usize
-    ensures { result ≡ greatest_bound 1 programs.now }
+// The most bytes that any of these programs can give, and at least `least`.
+fn greatest_bound(least: usize, programs: &[Option<Program>]) -> usize
+    ensures { result ≡ greatest_bound least programs.now }
 {
-    let mut greatest = 1;
+    let mut greatest = least;
     for program in programs {
         greatest = counted_bound(program).max(greatest);
     }

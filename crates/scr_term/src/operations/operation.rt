@@ -1,5 +1,8 @@
 //! The operations of a terminal, and the spots of its cursor. `specs/Operations/Steps.antt` says
 //! what they do; `rendering` gives their bytes.
+ghost use Rattle.std.specs.Prelude.{◌≡◌};
+ghost use Rattle.scr_term.specs.Operations.Texts.{put_of};
+
 use scr_cells::Attrs;
 use std::fmt;
 use std::marker::Model;
@@ -76,10 +79,29 @@ pub enum Op {
     Fore(u8),
     /// `setab`: sets the background, 0 to 7.
     Back(u8),
-    /// Writes a character, 32 to 126, with the attributes that are on and the current colours.
+    /// Writes a character of ASCII, 32 to 126, with the attributes that are on and the current
+    /// colours.
     Put(u8),
+    /// Writes a character above ASCII in UTF-8 (RFC 3629), as `Put` does one of ASCII.
+    Write(char),
     /// `rep`: writes a character, 32 to 126, 2 to 500 times as `Put` does, short of the last column.
     Repeat(u8, u32),
+}
+
+impl Op {
+    /// The operation that writes a character: `Put` for one of ASCII, `Write` for any other.
+    #[inline(always)]
+    #[tactic(auto, unfolding(crate::specs::Operations::Texts::put_of))]
+    pub fn of(character: char) -> Op
+        ensures { result ≡ put_of character }
+    {
+        let code = u32::from(character);
+        if code < 128 {
+            Op::Put(code as u8)
+        } else {
+            Op::Write(character)
+        }
+    }
 }
 
 /// Writes an operation as its name with its numbers, attributes or character: `Home`, `Move(4, 9)`,
@@ -90,6 +112,7 @@ impl fmt::Display for Op {
             Op::Enter(attrs) => write!(f, "Enter({attrs})"),
             Op::Set(attrs) => write!(f, "Set({attrs})"),
             Op::Put(byte) => write!(f, "Put({})", char::from(*byte)),
+            Op::Write(character) => write!(f, "Write({character})"),
             Op::Repeat(byte, count) => write!(f, "Repeat({}, {count})", char::from(*byte)),
             _ => write!(f, "{self:?}"),
         }

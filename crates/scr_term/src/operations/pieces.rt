@@ -14,8 +14,10 @@ use scr_cells::Attrs;
 /// of its own to keep the type small.
 #[derive(Clone, Copy)]
 pub(crate) enum SentPiece {
-    /// A character.
+    /// A character of ASCII.
     Byte(u8),
+    /// A character that is spelled in UTF-8.
+    Encoded(char),
     /// The text of a capability with two parameters; the others are 0.
     Numbers(Capability, i32, i32),
     /// The text of `sgr` for a set of attributes.
@@ -61,6 +63,7 @@ impl Profile {
             Op::Fore(colour) => text_of_one(Capability::Setaf, u32::from(colour)),
             Op::Back(colour) => text_of_one(Capability::Setab, u32::from(colour)),
             Op::Put(byte) => SentPiece::Byte(byte),
+            Op::Write(character) => SentPiece::Encoded(character),
             Op::Repeat(byte, count) => text_of_two(Capability::Rep, u32::from(byte), count),
         }
     }

@@ -95,6 +95,7 @@ impl Prices {
             Op::Fore(_) => self.fore,
             Op::Back(_) => self.back,
             Op::Put(_) => 1,
+            Op::Write(character) => character.len_utf8() as u32,
             Op::Repeat(_, count) => self.repeat.with(count),
         }
     }

@@ -1,7 +1,8 @@
 //! The profile of a terminal: what is known of it, and which operations it has. `admission` makes a
 //! profile of an entry; `pieces` says what an operation sends, and `rendering` gives its bytes and
 //! their number.
-ghost use Rattle.std.specs.Prelude.{◌≡◌, ◌≤◌, length};
+ghost use Rattle.std.specs.Prelude.{◌≡◌, ◌≤◌, ◌&&◌, length};
+ghost use Rattle.scr_cells.specs.Characters.{is_beyond_ascii, is_utf8};
 ghost use Rattle.scr_term.specs.declared.operations.capability.Capability.TheVariants.{Sgr0};
 ghost use Rattle.scr_term.specs.declared.operations.operation.Op.{Op};
 ghost use Rattle.scr_term.specs.Operations.Profiles.{IsProfile, has_colours, is_shown, is_there, shown_set};
@@ -13,7 +14,7 @@ use crate::operations::capability::Capability;
 use crate::operations::pieces::{SentPiece, entering};
 use crate::operations::prices::Prices;
 use bitflags::Flags;
-use scr_cells::{Attrs, Size, is_ascii};
+use scr_cells::{Attrs, Charset, Size, is_ascii, is_beyond_ascii};
 use std::marker::Model;
 use ti_param::Program;
 
@@ -26,6 +27,7 @@ pub struct Profile {
     pub(crate) programs: Vec<Option<Program>>,
     pub(crate) msgr: bool,
     pub(crate) palette: bool,
+    pub(crate) charset: Charset,
     pub(crate) shown: Attrs,
     pub(crate) colours: bool,
     pub(crate) longest: usize,
@@ -42,9 +44,9 @@ impl Model for Profile {
 
     ghost coded = { profile_code (tree_code token.the_row.coded) };
 
-    ghost view = { λ a. record { rows = a.size.rows; columns = a.size.columns; programs = a.programs.items; msgr = a.msgr; palette = a.palette } };
+    ghost view = { λ a. record { rows = a.size.rows; columns = a.size.columns; programs = a.programs.items; msgr = a.msgr; palette = a.palette; charset = a.charset } };
 
-    ghost invariant = { λ a. IsKept (record { rows = a.size.rows; columns = a.size.columns; programs = a.programs.items; msgr = a.msgr; palette = a.palette }) a.shown.0 a.colours a.longest };
+    ghost invariant = { λ a. IsKept (record { rows = a.size.rows; columns = a.size.columns; programs = a.programs.items; msgr = a.msgr; palette = a.palette; charset = a.charset }) a.shown.0 a.colours a.longest };
 }
 
 impl Profile {
@@ -74,6 +76,13 @@ impl Profile {
         self.colours
     }
 
+    /// The characters that the terminal is sent.
+    pub fn charset(&self) -> Charset
+        ensures { result ≡ self.now.charset }
+    {
+        self.charset
+    }
+
     /// A bound on the bytes of any operation's text, at most 2,048.
     pub fn longest(&self) -> usize
         ensures prices { (op : Op) → length (bytes_of self.now op) ≤ result }
@@ -84,7 +93,8 @@ impl Profile {
 
     /// Whether the terminal has an operation: the entry has its text, its place is on the screen,
     /// its count is 1 to 500 (for `Repeat`, at least 2), its attributes and colours are shown (for
-    /// `Enter`, a single attribute), its byte is 32 to 126.
+    /// `Enter`, a single attribute), its byte is 32 to 126, its character is one above ASCII
+    /// (`is_character`) and the terminal is sent such in UTF-8.
     #[tactic(auto, unfolding(crate::specs::Operations::Texts::has))]
     pub fn has(&self, op: Op) -> bool
         ensures { result ≡ has self.now op }
@@ -115,7 +125,7 @@ impl Profile {
     }
 
     /// Whether an operation's numbers are within the limits, its attributes and colours are shown,
-    /// and its byte is a character.
+    /// and its byte or its character is one that the terminal is sent.
     #[inline(always)]
     pub(crate) fn is_within(&self, op: Op) -> bool
         ensures { result ≡ is_within self.now op }
@@ -143,6 +153,7 @@ impl Profile {
             Op::Set(attributes) => self.shown.contains(attributes),
             Op::Fore(colour) | Op::Back(colour) => colour < 8 && self.colours,
             Op::Put(byte) => is_ascii(byte),
+            Op::Write(character) => self.is_written(character),
             Op::Repeat(byte, count) => is_ascii(byte) && is_repetition(count),
             Op::Home
             | Op::Return
@@ -152,6 +163,13 @@ impl Profile {
             | Op::Reset
             | Op::ExitAttributes => true,
         }
+    }
+
+    // Whether this is a character above ASCII, and the terminal is sent such.
+    fn is_written(&self, character: char) -> bool
+        ensures { result ≡ (is_utf8 self.now.charset && is_beyond_ascii character) }
+    {
+        self.charset.is_utf8() && is_beyond_ascii(character)
     }
 
     // Whether an attribute can be turned on, and all can be turned off.
@@ -168,6 +186,7 @@ impl Profile {
     {
         match piece {
             SentPiece::Byte(_) => true,
+            SentPiece::Encoded(_) => self.charset.is_utf8(),
             SentPiece::Numbers(capability, ..) => self.is_there(capability),
             SentPiece::Renditions(_) => self.is_there(Capability::Sgr),
         }

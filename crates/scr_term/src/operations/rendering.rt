@@ -1,9 +1,9 @@
 //! The bytes of each operation, and their number. Nothing is sent here: bytes are appended to a
 //! vector.
-ghost use Rattle.std.specs.Prelude.{◌≡◌, ◌+◌, ◌<◌, ◌≤◌, ◌∷◌, [], ◌++◌, ◌&&◌, IsTrue, OnOk, OnErr, Some, None, if◌then◌else◌, length, vec_len, vec_capacity};
+ghost use Rattle.std.specs.Prelude.{◌≡◌, ◌+◌, ◌<◌, ◌≤◌, ◌∷◌, [], ◌++◌, ◌&&◌, IsTrue, OnOk, OnErr, Some, None, encode_utf8, if◌then◌else◌, length, vec_len, vec_capacity};
 ghost use Rattle.scr_term.specs.Operations.Profiles.{has_colours, is_there, program_of};
 ghost use Rattle.scr_term.specs.Code.SentPieces.{piece_of};
-ghost use Rattle.scr_term.specs.declared.operations.operation.Op.TheVariants.{Move, Put};
+ghost use Rattle.scr_term.specs.declared.operations.operation.Op.TheVariants.{Move, Put, Write};
 ghost use Rattle.scr_term.specs.Operations.Texts.{bytes_of, first_piece, has, is_sendable, nine, piece_bytes, renditions_of, resets_colours, written};
 
 use crate::operations::capability::Capability;
@@ -75,6 +75,7 @@ impl Profile {
     {
         match op {
             Op::Put(byte) => self.render_character(byte, out),
+            Op::Write(character) => self.render_encoded(character, out),
             Op::Move(row, column) => self.render_address(row, column, out),
             _ => self.render_any(op, out),
         }
@@ -91,6 +92,18 @@ impl Profile {
     {
         out.push(byte)?;
         Ok(())
+    }
+
+    // Appends a character in UTF-8.
+    #[tactic(auto, using(crate::proofs::RenderingLaws::bytes_of_written))]
+    fn render_encoded(&self, character: char, out: &mut Vec<u8>) -> Result<(), NoMemory>
+        requires { IsTrue (has self.now (Write character)) }
+        ensures ok { OnOk result (out.new.items ≡ out.old.items ++ bytes_of self.now (Write character)) }
+        ensures err { OnErr result (out.new.items ≡ out.old.items) }
+        ensures room { OnErr result (vec_capacity out.old < vec_len out.old + length (bytes_of self.now (Write character))) }
+        ensures kept { vec_capacity out.old ≤ vec_capacity out.new }
+    {
+        append_encoded(character, out)
     }
 
     // Appends a cursor address. It is a function of its own since another third is these.
@@ -157,6 +170,7 @@ impl Profile {
     {
         match piece {
             SentPiece::Byte(_) => 1,
+            SentPiece::Encoded(character) => character.len_utf8(),
             SentPiece::Numbers(capability, first, second) => {
                 self.numbers_cost(capability, first, second)
             }
@@ -210,6 +224,7 @@ impl Profile {
                 out.push(byte)?;
                 Ok(())
             }
+            SentPiece::Encoded(character) => append_encoded(character, out),
             SentPiece::Numbers(capability, first, second) => {
                 self.render_numbers(capability, first, second, out)
             }
@@ -258,4 +273,17 @@ impl Profile {
             .run(renditions_of(set), &mut Vars::new(), out)
             .map_err(|_: RunFault| NoMemory)
     }
+}
+
+// Appends the UTF-8 encoding of a character (RFC 3629).
+fn append_encoded(character: char, out: &mut Vec<u8>) -> Result<(), NoMemory>
+    ensures ok { OnOk result (out.new.items ≡ out.old.items ++ encode_utf8 character) }
+    ensures err { OnErr result (out.new.items ≡ out.old.items) }
+    ensures room { OnErr result (vec_capacity out.old < vec_len out.old + length (encode_utf8 character)) }
+    ensures kept { vec_capacity out.old ≤ vec_capacity out.new }
+{
+    let mut buffer = [0; 4];
+    let text = character.encode_utf8(&mut buffer);
+    out.extend_from_slice(text.as_bytes())?;
+    Ok(())
 }

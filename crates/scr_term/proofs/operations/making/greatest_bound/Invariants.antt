@@ -4,4 +4,4 @@ use Rattle.scr_term.proofs.operations.making.greatest_bound.Given as goal
 
 -- the rest of the programs gives the answer
 abbrev pub invariant-loop-program : goal.invariant-loop-program
-invariant-loop-program l = greatest_bound l.greatest (drop l.program-index l.programs) ≡ greatest_bound 1 l.programs
+invariant-loop-program l = greatest_bound l.greatest (drop l.program-index l.programs) ≡ greatest_bound l.fn.least l.programs

@@ -1,9 +1,12 @@
 use Rattle.std.proofs.lemmas.Result.{IfOk-weaker, IfErr-weaker}
-use Rattle.scr_term.proofs.BundledSuitsLaws.{ecma48_columns, ecma48_is, ecma48_rows, memory_alone}
+use Rattle.std.specs.Prelude.{Some}
+use Rattle.scr_cells.specs.declared.charsets.Charset.TheVariants.{Ascii}
+use Rattle.scr_term.proofs.BundledLaws.{ecma48_is}
+use Rattle.scr_term.proofs.BundledSuitsLaws.{ecma48_columns, ecma48_rows, memory_alone}
 use Rattle.scr_term.proofs.operations.profiles.Profile.ecma48.Goals as goal
 
 pub returns-clause-entry : goal.returns-clause-entry
-returns-clause-entry c = IfOk-weaker c.admit.result _ _ (ecma48_is c.in-Ok.entry c.args.size c.in-Ok.ensures.entry) c.admit.ensures.ok
+returns-clause-entry c = IfOk-weaker c.admit.result _ _ (λ profile is. ecma48_is Ascii c.in-Ok.entry c.in-Ok.ensures.entry profile (Some c.args.size) is) c.admit.ensures.ok
 
 pub returns-clause-rows : goal.returns-clause-rows
 returns-clause-rows c = IfOk-weaker c.admit.result _ _ (ecma48_rows c.in-Ok.entry c.args.size) c.admit.ensures.ok

@@ -5,7 +5,7 @@ use Rattle.scr_term.specs.declared.operations.profile_faults.ProfileFault.TheVar
 use Rattle.scr_term.specs.Operations.Admission.{IsRefused, admitted_on, named_text, spare_program}
 use Rattle.scr_term.specs.Operations.Capabilities.{each_spare}
 use Rattle.scr_term.proofs.AdmissionLaws.{refused_unsuitable, refused_margin, refused_missing, refused_size, refused_bad, refused_long, none_refused, long_first}
-use Rattle.scr_term.proofs.operations.profiles.Profile.admit.Goals as goal
+use Rattle.scr_term.proofs.operations.profiles.Profile.admit_as.Goals as goal
 
 pub returns-in_err-is_suitable-clause-err : goal.returns-in_err-is_suitable-clause-err
 returns-in_err-is_suitable-clause-err c =
@@ -54,5 +54,5 @@ returns-clause-ok c =
     let long = long_first entry c.deref.result.now c.first_long.result (c.deref.ensures.value ∙ c.in-Ok.ensures ∙ ap (λ l. l ++ map (spare_program entry) each_spare) c.in_ok-programs.ensures.programs) c.first_long.ensures in
     record {
       suits = none_refused entry c.args.size c.in_ok-is_suitable.ensures.judged c.in_ok-keeps_its_margin.ensures.judged c.in_ok-has_needed_texts.ensures c.in_ok-size.ensures.judged c.in_ok-programs.ensures.judged (sym long ∙ ap (option_map (λ x. LongString (named_text x))) c.in_default-first_long.is);
-      made = subst (λ s. admitted_on entry s c.priced.result) (sym c.in_ok-size.ensures.size) (c.priced.ensures ∙ c.profile.ensures);
+      made = subst (λ s. admitted_on c.args.charset entry s c.priced.result) (sym c.in_ok-size.ensures.size) (c.priced.ensures ∙ c.profile.ensures);
     }
