@@ -1,11 +1,12 @@
 -- What a motion changes, from what its change makes of a state; and that the pen after an operation is shown.
 use Rattle.std.proofs.Common.{◌≡◌, ◌||◌, ℕ, Bool, true, false, Option, None, option_map, if◌then◌else◌, refl}
+use Rattle.scr_cells.specs.declared.charsets.Charset.TheVariants.{Utf8}
 use Rattle.scr_cells.specs.PenViews.{PenView, is_plain_pen}
 use Rattle.scr_term.specs.Operations.Abilities.{full_abilities}
 use Rattle.scr_term.specs.Operations.Laws.{ShownPenLaws}
 use Rattle.scr_term.specs.Operations.Texts.{has}
 use Rattle.scr_term.specs.declared.operations.operation.Op.{Op}
-use Rattle.scr_term.specs.declared.operations.operation.Op.TheVariants.{Home, Move, Column, Line, Up, Down, Left, Right, UpBy, DownBy, LeftBy, RightBy, Return, Clear, EraseLine, EraseBelow, EraseChars, InsertLines, DeleteLines, InsertChars, DeleteChars, ScrollUp, ScrollDown, Reset, ExitAttributes, Enter, Set, Fore, Back, Put, Repeat}
+use Rattle.scr_term.specs.declared.operations.operation.Op.TheVariants.{Home, Move, Column, Line, Up, Down, Left, Right, UpBy, DownBy, LeftBy, RightBy, Return, Clear, EraseLine, EraseBelow, EraseChars, InsertLines, DeleteLines, InsertChars, DeleteChars, ScrollUp, ScrollDown, Reset, ExitAttributes, Enter, Set, Fore, Back, Put, Write, Repeat}
 use Rattle.scr_term.specs.Operations.Profiles.{ProfileView}
 use Rattle.scr_term.specs.Operations.States.{IsShownPen, TerminalState}
 use Rattle.scr_term.specs.Operations.Steps.{motion_made}
@@ -26,10 +27,10 @@ motion_makes profile rows columns spot pen change result f same-rows same-column
     by false = refl
 
 -- the pen after an operation that a profile has is shown by full abilities
-pub next_is_shown : ShownPenLaws → (profile : ProfileView) (pen : PenView) (op : Op) → has profile op ≡ true → IsShownPen (full_abilities profile.rows profile.columns) pen → IsShownPen (full_abilities profile.rows profile.columns) (next_pen pen op)
-next_is_shown pens profile pen Reset had is = pens.plain (full_abilities profile.rows profile.columns)
-next_is_shown pens profile pen (Enter a) had is = pens.more (full_abilities profile.rows profile.columns) pen a.0 is (pens.entered profile a had)
-next_is_shown pens profile pen (Set a) had is = pens.set (full_abilities profile.rows profile.columns) a.0 (pens.chosen profile a had)
+pub next_is_shown : ShownPenLaws → (profile : ProfileView) (pen : PenView) (op : Op) → has profile op ≡ true → IsShownPen (full_abilities Utf8 profile.rows profile.columns) pen → IsShownPen (full_abilities Utf8 profile.rows profile.columns) (next_pen pen op)
+next_is_shown pens profile pen Reset had is = pens.plain (full_abilities Utf8 profile.rows profile.columns)
+next_is_shown pens profile pen (Enter a) had is = pens.more (full_abilities Utf8 profile.rows profile.columns) pen a.0 is (pens.entered profile a had)
+next_is_shown pens profile pen (Set a) had is = pens.set (full_abilities Utf8 profile.rows profile.columns) a.0 (pens.chosen profile a had)
 next_is_shown pens profile pen ExitAttributes had is = is
 next_is_shown pens profile pen Home had is = is
 next_is_shown pens profile pen (Move r k) had is = is
@@ -57,4 +58,5 @@ next_is_shown pens profile pen (ScrollDown n) had is = is
 next_is_shown pens profile pen (Fore n) had is = is
 next_is_shown pens profile pen (Back n) had is = is
 next_is_shown pens profile pen (Put b) had is = is
+next_is_shown pens profile pen (Write b) had is = is
 next_is_shown pens profile pen (Repeat b n) had is = is

@@ -1,5 +1,6 @@
 -- What the fields of an emulated terminal make is one: a new one, one with a character written, and ones with places erased.
 use Rattle.std.proofs.Common.{◌≡◌, ℕ, ◌<◌, Bool, sym, subst}
+use Rattle.scr_cells.specs.declared.charsets.Charset.TheVariants.{Utf8}
 use Rattle.scr_cells.specs.Grids.{GridView, GridLaws, grid_of, grid_with}
 use Rattle.scr_cells.specs.LookViews.{LookView, IsLook, blank, blank_grid}
 use Rattle.scr_cells.specs.PenViews.{PenView, plain_pen}
@@ -19,7 +20,7 @@ blank_is_display looks pens rows columns size = record {
     whole = looks.blank_size rows columns;
     looks = looks.blank_looks rows columns;
     spot = (size.some_rows, size.some_columns);
-    pen = pens.plain (full_abilities rows columns);
+    pen = pens.plain (full_abilities Utf8 rows columns);
   };
 }
 

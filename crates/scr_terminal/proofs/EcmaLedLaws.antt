@@ -9,10 +9,11 @@ use Rattle.scr_terminal.specs.Ecma.Laws.{ScreensFollowTexts}
 use Rattle.scr_terminal.proofs.EcmaDivisionLaws.{fed_once}
 
 fed_led : (old : ScreenView) (text : List ℕ) (state : TerminalState) → old.undefined ≡ false → old.waiting ≡ []
-    → Leads old.rows old.columns old.state text state → IsFed old text (record old { state = state })
+    → Leads old.charset old.rows old.columns old.state text state → IsFed old text (record old { state = state })
 fed_led old text state defined none leads = record {
   rows = refl;
   columns = refl;
+  charset = refl;
   stays = λ u. cc;
   acts = λ d. inl (record {
     units = leads.units;

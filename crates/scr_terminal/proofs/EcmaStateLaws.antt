@@ -3,6 +3,7 @@ use Rattle.std.proofs.Common.{◌≡◌, ℕ, ◌-◌, ◌≤◌, ◌&&◌, leb,
 use Rattle.std.specs.Prelude.{IfSome, option_and_then, option_map, unwrap_or}
 use Rattle.std.proofs.lemmas.Bool.Decides.{nat_tests}
 use Rattle.std.specs.Option.{ForSome}
+use Rattle.scr_cells.specs.declared.charsets.Charset.TheVariants.{Utf8}
 use Rattle.scr_cells.specs.PenViews.{IsColour, PenView, plain_pen, with_attribute}
 use Rattle.scr_term.specs.Operations.States.{AreShownColours, IsShownPen}
 use Rattle.scr_term.specs.Operations.Abilities.{Abilities, full_abilities}
@@ -75,8 +76,8 @@ all_shown pens abilities every shows a (n ∷ ns) b is e =
     all_shown pens abilities every shows first.0 ns b (rendition_shown pens abilities every shows a (unwrap_or n 0) first.0 is first.1) first.2
 
 -- SGR leaves a pen that a screen shows
-pub renditions_shown : ShownPenLaws → (rows columns : ℕ) (a : PenView) (ns : List (Option ℕ)) (b : PenView) → IsShownPen (full_abilities rows columns) a → Some b ≡ renditions a ns → IsShownPen (full_abilities rows columns) b
-renditions_shown pens rows columns a ns b is e = all_shown pens (full_abilities rows columns) refl refl a ns b is (sym e)
+pub renditions_shown : ShownPenLaws → (rows columns : ℕ) (a : PenView) (ns : List (Option ℕ)) (b : PenView) → IsShownPen (full_abilities Utf8 rows columns) a → Some b ≡ renditions a ns → IsShownPen (full_abilities Utf8 rows columns) b
+renditions_shown pens rows columns a ns b is e = all_shown pens (full_abilities Utf8 rows columns) refl refl a ns b is (sym e)
 
 -- a change that fits a screen, by what it is
 pub change_fits : (rows columns r c : ℕ) (o : Option Change) (y : Change) → ForSome o (IsChange rows columns) → o ≡ Some y

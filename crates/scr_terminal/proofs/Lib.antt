@@ -7,6 +7,7 @@ mod EcmaLedLaws
 mod EcmaParameterLaws
 mod EcmaPieceLaws
 mod EcmaReadingLaws
+mod EcmaSpelledLaws
 mod EcmaStateLaws
 mod EcmaUnitLaws
 mod WritingLaws

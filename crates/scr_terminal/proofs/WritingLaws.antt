@@ -1,16 +1,16 @@
 -- Characters that are written into a row in one go: what is left is a display, and it is what steps one after another lead to.
-use Rattle.std.proofs.Common.{◌≡◌, ◌∙◌, ℕ, zero, suc, replicate, ◌+◌, ◌-◌, ◌<◌, ◌≤◌, ◌⊎◌, inl, inr, ◌&&◌, Bool, true, false, All, List, [], ◌∷◌, ◌++◌, length, set, take, drop, Option, Some, None, cond, is_some, option_and_then, sym, subst, ap, refl, arith, nat_lt}
+use Rattle.std.proofs.Common.{◌≡◌, ◌∙◌, ℕ, zero, suc, replicate, ◌+◌, ◌-◌, ◌<◌, ◌≤◌, ◌⊎◌, inl, inr, ◌&&◌, ◌||◌, Bool, true, false, All, List, [], ◌∷◌, ◌++◌, length, set, take, drop, Option, Some, None, cond, is_some, option_and_then, sym, subst, ap, refl, arith, nat_lt}
 use Rattle.std.specs.List.{list_all}
 use Rattle.std.proofs.lemmas.Bool.Decides.{nat_tests}
 use Rattle.std.proofs.lemmas.List.{append-nil, append_assoc, drop-set-lt, get_or-set_same, length-replicate, length-take, set-get_or, set-set, take-append-drop, take-take, take_more_set}
 use Rattle.std.proofs.lemmas.List.Elements.{All-append, All-cons, All-drop, All-get_or, All-nil, All-set, All-take}
-use Rattle.scr_cells.specs.Characters.{is_ascii}
+use Rattle.scr_cells.specs.Characters.{IsCharacter, is_ascii, is_beyond_ascii, is_utf8}
 use Rattle.scr_cells.specs.Grids.{GridView, GridLaws, IsGrid, grid_row, grid_with, grid_with_run, line_with_run}
 use Rattle.scr_cells.specs.LookViews.{LookView, IsLook, blank}
 use Rattle.scr_cells.specs.MadeRuns.{before, made_while}
 use Rattle.scr_cells.specs.PenViews.{PenView, IsPen}
 use Rattle.scr_term.specs.declared.operations.operation.Op.{Op}
-use Rattle.scr_term.specs.declared.operations.operation.Op.TheVariants.{Put, Repeat}
+use Rattle.scr_term.specs.declared.operations.operation.Op.TheVariants.{Put, Write, Repeat}
 use Rattle.scr_term.specs.declared.operations.operation.Spot.{Spot}
 use Rattle.scr_term.specs.declared.operations.operation.Spot.TheVariants.{At, Margin}
 use Rattle.scr_terminal.specs.Code.Writing.{look_of, looks_ahead, looks_written, spot_after}
@@ -43,7 +43,7 @@ look_is : (pen : PenView) (op : Op) (look : LookView) → IsPen pen → look_of 
 look_is pen (Put byte) look is made = by (is_ascii byte) refl made
   where
     by : (t : Bool) → is_ascii byte ≡ t → cond t (Some (record { character = byte; pen = pen })) None ≡ Some look → IsLook look
-    by true e made = let same : record { character = byte; pen = pen } ≡ look = cc in subst IsLook same (record { character = (grind (arith, nat_tests, e), grind (arith, nat_tests, e)); pen = is })
+    by true e made = let same : record { character = byte; pen = pen } ≡ look = cc in subst IsLook same (record { character = ap (λ t. t || is_beyond_ascii byte) e; pen = is })
     by false e made = (cc)
 look_is pen op look is made = (cc)
 
@@ -319,3 +319,23 @@ repeats_are_characters looks profile old new s byte n h =
     let got = chosen (has profile (Repeat byte n)) (act profile old (Repeat byte n)) new h in
     let one : is_ascii byte ≡ true = both_first _ _ (both_first _ _ got.0) in
     repeated_at looks profile profile.rows old new byte n one s.whole old.spot refl s.spot got.1
+
+-- ---- what an operation writes that a profile has
+
+either : (a b : Bool) → b ≡ true → (a || b) ≡ true
+either true b h = refl
+either false b h = h
+
+pub put_is_character : (profile : ProfileView) (byte : ℕ) → has profile (Put byte) ≡ true → IsCharacter byte
+unfolding has
+put_is_character profile byte had = ap (λ t. t || is_beyond_ascii byte) (both_first (is_ascii byte) true had)
+
+both_last : (a b : Bool) → (a && b) ≡ true → b ≡ true
+both_last true b h = h
+both_last false b h = (cc)
+
+pub write_is_character : (profile : ProfileView) (code : ℕ) → has profile (Write code) ≡ true → IsCharacter code
+unfolding has
+write_is_character profile code had =
+    let written : (is_utf8 profile.charset && is_beyond_ascii code) ≡ true = both_first (is_utf8 profile.charset && is_beyond_ascii code) (is_utf8 profile.charset) had in
+    either (is_ascii code) (is_beyond_ascii code) (both_last (is_utf8 profile.charset) (is_beyond_ascii code) written)

@@ -1,4 +1,4 @@
--- The characters at the front of a list of operations, as far as the row has room; and characters that are repeated.
+-- The characters of ASCII at the front of a list of operations, as far as the row has room; and characters that are repeated.
 -- terminfo(5), 'Basic Capabilities' and 'Miscellaneous'.
 use Rattle.std.specs.Prelude.{ℕ, suc, ◌≡◌, ◌-◌, Bool, false, List, [], ◌∷◌, Some, replicate, take, if◌then◌else◌}
 use Rattle.scr_cells.specs.Characters.{is_ascii}
@@ -10,12 +10,12 @@ use Rattle.scr_term.specs.declared.operations.operation.Op.TheVariants.{Put, Rep
 use Rattle.scr_term.specs.declared.operations.operation.Spot.{Spot}
 use Rattle.scr_term.specs.declared.operations.operation.Spot.TheVariants.{At, Margin}
 
--- The operation writes a character.
+-- The operation writes a character of ASCII.
 abbrev pub is_character_op : Op → Bool
 is_character_op (Put byte) = is_ascii byte
 is_character_op op = false
 
--- The number of characters that operations begin with.
+-- The number of such characters that operations begin with.
 abbrev pub characters_first : List Op → ℕ
 characters_first [] = 0
 characters_first (op ∷ ops) = if is_character_op op then suc (characters_first ops) else 0

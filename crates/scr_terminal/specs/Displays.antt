@@ -1,5 +1,6 @@
 -- An emulated terminal: its size and its state. terminfo(5), 'Basic Capabilities'.
 use Rattle.std.specs.Prelude.{ℕ, Option, unwrap_or}
+use Rattle.scr_cells.specs.declared.charsets.Charset.TheVariants.{Utf8}
 use Rattle.scr_cells.specs.PictureViews.{IsSize}
 use Rattle.scr_term.specs.Operations.Abilities.{full_abilities}
 use Rattle.scr_term.specs.Operations.States.{TerminalState, IsState, blank_state}
@@ -13,7 +14,7 @@ pub record DisplayView : Type 0 where
 -- The emulated terminal has a valid size and a state of that size; it shows every attribute, and colours.
 pub record IsDisplay (display : DisplayView) : Type 0 where
   pub size : IsSize display.rows display.columns
-  pub state : IsState (full_abilities display.rows display.columns) display.state
+  pub state : IsState (full_abilities Utf8 display.rows display.columns) display.state
 
 -- Blanks everywhere, the cursor in the first place, no attribute on, default colours.
 abbrev pub blank_display : ℕ → ℕ → DisplayView

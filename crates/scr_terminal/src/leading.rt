@@ -1,5 +1,6 @@
 //! Where operations lead that change no cell: motions to another spot, renditions to another pen.
 ghost use Rattle.std.specs.Prelude.{◌≡◌, ◌↔◌, ℕ, IsTrue, IfNone, IfSome, true};
+ghost use Rattle.scr_cells.specs.declared.charsets.Charset.TheVariants.{Utf8};
 ghost use Rattle.scr_term.specs.Operations.Abilities.{full_abilities};
 ghost use Rattle.scr_terminal.specs.Leading.{GoesTo, IsUndefinedAt, TurnsTo, is_motion, is_turn};
 ghost use Rattle.scr_term.specs.Operations.States.{IsShownPen, IsSpot};
@@ -22,7 +23,7 @@ use scr_term::{Op, Profile, Spot};
 pub fn moved_by(profile: &Profile, spot: Spot, pen: Pen, op: Op) -> Option<Spot>
     requires { IsTrue (has profile.now op) }
     ensures goes { IfSome result (GoesTo profile.now spot pen op) }
-    ensures undefined { IfNone result (is_motion op ≡ true → IsSpot profile.now.rows profile.now.columns spot → IsShownPen (full_abilities profile.now.rows profile.now.columns) pen → IsUndefinedAt profile.now spot pen op) }
+    ensures undefined { IfNone result (is_motion op ≡ true → IsSpot profile.now.rows profile.now.columns spot → IsShownPen (full_abilities Utf8 profile.now.rows profile.now.columns) pen → IsUndefinedAt profile.now spot pen op) }
 {
     if !is_on_screen(profile, spot) {
         return None;
@@ -31,7 +32,7 @@ pub fn moved_by(profile: &Profile, spot: Spot, pen: Pen, op: Op) -> Option<Spot>
         return None;
     }
     match op {
-        Op::Put(_) | Op::Repeat(..) => None,
+        Op::Put(_) | Op::Write(_) | Op::Repeat(..) => None,
         _ => match change_of(profile, spot, pen, op) {
             Some(Change::Moved(next)) => Some(next),
             _ => None,
@@ -82,8 +83,8 @@ fn is_on_screen(profile: &Profile, spot: Spot) -> bool
 
 // Whether a terminal that shows everything shows a pen.
 fn is_shown_by_all(pen: Pen) -> bool
-    ensures shown { (rows columns : ℕ) → IsTrue result → IsShownPen (full_abilities rows columns) pen }
-    ensures hidden { (rows columns : ℕ) → IsShownPen (full_abilities rows columns) pen → IsTrue result }
+    ensures shown { (rows columns : ℕ) → IsTrue result → IsShownPen (full_abilities Utf8 rows columns) pen }
+    ensures hidden { (rows columns : ℕ) → IsShownPen (full_abilities Utf8 rows columns) pen → IsTrue result }
 {
     Attrs::EVERY.contains(pen.attrs())
 }

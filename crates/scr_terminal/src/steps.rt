@@ -1,8 +1,9 @@
 //! What each operation changes on an emulated terminal, except for writing characters.
 ghost use Rattle.std.specs.Option.{is_none};
 ghost use Rattle.std.specs.Prelude.{◌≡◌, ◌≢◌, ◌||◌, ◌&&◌, ℕ, true, Some, None, IsTrue, IfSome, if◌then◌else◌};
+ghost use Rattle.scr_cells.specs.declared.charsets.Charset.TheVariants.{Utf8};
 ghost use Rattle.scr_cells.specs.PenViews.{is_plain_pen, plain_pen};
-ghost use Rattle.scr_term.specs.declared.operations.operation.Op.TheVariants.{Put, Repeat};
+ghost use Rattle.scr_term.specs.declared.operations.operation.Op.TheVariants.{Put, Write, Repeat};
 ghost use Rattle.scr_term.specs.Operations.Abilities.{full_abilities};
 ghost use Rattle.scr_term.specs.Operations.States.{IsShownPen, IsSpot, from_place};
 ghost use Rattle.scr_term.specs.Operations.Steps.{act, lines_below_erased};
@@ -25,8 +26,9 @@ use scr_term::{Op, Profile, Spot, shown_pen_laws};
 pub(crate) fn change_of(profile: &Profile, spot: Spot, pen: Pen, op: Op) -> Option<Change>
     requires has { IsTrue (has profile.now op) }
     requires spot { IsSpot profile.now.rows profile.now.columns spot }
-    requires pen { IsShownPen (full_abilities profile.now.rows profile.now.columns) pen }
+    requires pen { IsShownPen (full_abilities Utf8 profile.now.rows profile.now.columns) pen }
     requires one { (byte : ℕ) → op ≢ Put byte }
+    requires written { (code : ℕ) → op ≢ Write code }
     requires several { (byte n : ℕ) → op ≢ Repeat byte n }
     ensures value { MakesWith profile.now.rows profile.now.columns spot pen result (λ state. act profile.now state op) }
     ensures change { IfSome result (IsChange profile.now.rows profile.now.columns) }
@@ -62,7 +64,7 @@ pub(crate) fn change_of(profile: &Profile, spot: Spot, pen: Pen, op: Op) -> Opti
         Op::ExitAttributes => exited(pen),
         Op::Fore(colour) => coloured(spot, pen.with_foreground(Some(colour))),
         Op::Back(colour) => coloured(spot, pen.with_background(Some(colour))),
-        Op::Put(_) | Op::Repeat(..) => None,
+        Op::Put(_) | Op::Write(_) | Op::Repeat(..) => None,
     }
 }
 

@@ -2,7 +2,9 @@
 ghost use Rattle.std.specs.Prelude.{◌≡◌, ◌≢◌, ◌<◌, ◌≤◌, ◌↔◌, ℕ, IfOk, IsOk, IsTrue, bit_and, is_some, length, option_map, take, true};
 ghost use Rattle.std.specs.List.{list_all};
 ghost use Rattle.std.specs.Option.{ForSome};
+ghost use Rattle.scr_cells.specs.declared.charsets.Charset.TheVariants.{Utf8};
 ghost use Rattle.scr_cells.specs.Attributes.{every_attribute};
+ghost use Rattle.scr_cells.specs.Characters.{IsCharacter};
 ghost use Rattle.scr_cells.specs.Grids.{grid_at, grid_row};
 ghost use Rattle.scr_cells.specs.LookViews.{IsLook, LookView};
 ghost use Rattle.scr_cells.specs.PenViews.{plain_pen};
@@ -10,11 +12,11 @@ ghost use Rattle.scr_cells.specs.PictureViews.{IsPlace};
 ghost use Rattle.scr_terminal.specs.Displays.{IsDisplay, blank_display, gone_on};
 ghost use Rattle.scr_terminal.specs.Characters.{characters_ahead, is_character_op};
 ghost use Rattle.scr_term.specs.Operations.Abilities.{full_abilities};
-ghost use Rattle.scr_term.specs.Operations.States.{IsShownPen, IsSpot};
+ghost use Rattle.scr_term.specs.Operations.States.{IsShownPen, IsSpot, character_written};
 ghost use Rattle.scr_term.specs.Operations.Steps.{act, runs, step};
 ghost use Rattle.scr_term.specs.Operations.Texts.{has};
 ghost use Rattle.scr_terminal.specs.Code.Changes.{IsChange, changed};
-ghost use Rattle.scr_term.specs.declared.operations.operation.Op.TheVariants.{Put, Repeat};
+ghost use Rattle.scr_term.specs.declared.operations.operation.Op.TheVariants.{Put, Write, Repeat};
 
 use crate::displays::{Change, Display};
 use crate::steps::change_of;
@@ -89,14 +91,15 @@ impl Terminal {
             return Err(Undefined);
         }
         let is_defined = match op {
-            Op::Put(byte) => self.write(profile, byte),
+            Op::Put(byte) => self.write(profile, char::from(byte)),
+            Op::Write(character) => self.write(profile, character),
             Op::Repeat(byte, count) => self.repeat(profile, byte, count),
             _ => self.change(profile, op),
         };
         if is_defined { Ok(()) } else { Err(Undefined) }
     }
 
-    /// Writes the characters that `ops` begins with, as many as fit in the cursor's row, and
+    /// Writes the characters of ASCII that `ops` begins with, as many as fit in the cursor's row, and
     /// returns their number: for callers that write many. At the margin it writes none.
     pub fn step_characters(&mut self, profile: &Profile, ops: &[Op]) -> usize
         requires columns { profile.now.columns ≡ self.old.columns }
@@ -159,7 +162,7 @@ impl Terminal {
     /// The pen: the attributes that are on, and the current colours.
     pub fn pen(&self) -> Pen
         ensures value { result ≡ self.now.state.pen }
-        ensures shown { IsShownPen (full_abilities self.now.rows self.now.columns) result }
+        ensures shown { IsShownPen (full_abilities Utf8 self.now.rows self.now.columns) result }
     {
         self.display.pen()
     }
@@ -182,14 +185,13 @@ impl Terminal {
     }
 
     // Writes a character; at the margin it returns false and changes nothing.
-    #[tactic(auto, unfolding(scr_term::specs::Operations::Texts::has))]
-    fn write(&mut self, profile: &Profile, byte: u8) -> bool
-        requires has { IsTrue (has profile.now (Put byte)) }
+    fn write(&mut self, profile: &Profile, character: char) -> bool
+        requires character { IsCharacter character }
         requires columns { profile.now.columns ≡ self.old.columns }
-        ensures answer { result ≡ is_some (act profile.now self.old.state (Put byte)) }
-        ensures state { self.new ≡ gone_on self.old (act profile.now self.old.state (Put byte)) }
+        ensures answer { result ≡ is_some (character_written profile.now.columns self.old.state character) }
+        ensures state { self.new ≡ gone_on self.old (character_written profile.now.columns self.old.state character) }
     {
-        let is_defined = self.display.write(byte);
+        let is_defined = self.display.write(character);
         let _size = self.display.size();
         is_defined
     }
@@ -213,6 +215,7 @@ impl Terminal {
         requires rows { profile.now.rows ≡ self.old.rows }
         requires columns { profile.now.columns ≡ self.old.columns }
         requires one { (byte : ℕ) → op ≢ Put byte }
+        requires written { (code : ℕ) → op ≢ Write code }
         requires several { (byte n : ℕ) → op ≢ Repeat byte n }
         ensures answer { result ≡ is_some (act profile.now self.old.state op) }
         ensures state { self.new ≡ gone_on self.old (act profile.now self.old.state op) }

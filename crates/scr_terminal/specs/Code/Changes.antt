@@ -1,5 +1,6 @@
 -- What changes on an emulated terminal, and what a change makes of a state.
 use Rattle.std.specs.Prelude.{ℕ, ◌≡◌, ◌+◌, ◌<◌, ◌≤◌, Option, option_map}
+use Rattle.scr_cells.specs.declared.charsets.Charset.TheVariants.{Utf8}
 use Rattle.scr_cells.specs.Grids.{is_in_run, places_left, places_right, rows_down, rows_up}
 use Rattle.scr_cells.specs.LookViews.{blank_grid}
 use Rattle.scr_cells.specs.PenViews.{PenView, plain_pen, with_attribute}
@@ -23,7 +24,7 @@ IsChange rows columns (LinesInserted row n) = row + n ≤ rows
 IsChange rows columns (LinesDeleted row n) = row + n ≤ rows
 IsChange rows columns (CharactersInserted row column n) = (row < rows) × (column + n ≤ columns)
 IsChange rows columns (CharactersDeleted row column n) = (row < rows) × (column + n ≤ columns)
-IsChange rows columns (Rendered pen) = IsShownPen (full_abilities rows columns) pen
+IsChange rows columns (Rendered pen) = IsShownPen (full_abilities Utf8 rows columns) pen
 
 -- the cursor's position alone
 abbrev pub IsMoved : Change → Type 0

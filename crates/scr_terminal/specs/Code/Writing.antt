@@ -12,7 +12,7 @@ use Rattle.scr_term.specs.declared.operations.operation.Spot.TheVariants.{At, Ma
 use Rattle.scr_terminal.specs.Characters.{places_ahead}
 use Rattle.scr_term.specs.Operations.States.{TerminalState}
 
--- the look of a character that is written with a pen; none of another operation
+-- the look of a character of ASCII that is written with a pen; none of another operation
 abbrev pub look_of : PenView → Op → Option LookView
 look_of pen (Put byte) = if is_ascii byte then Some (record { character = byte; pen = pen }) else None
 look_of pen op = None

@@ -1,6 +1,7 @@
 //! The grid, the cursor's spot and the pen of an emulated terminal.
 ghost use Rattle.std.specs.Prelude.{◌≡◌, ◌+◌, ◌<◌, ◌≤◌, IfOk, is_some, length};
-ghost use Rattle.scr_cells.specs.Characters.{IsAscii};
+ghost use Rattle.scr_cells.specs.declared.charsets.Charset.TheVariants.{Utf8};
+ghost use Rattle.scr_cells.specs.Characters.{IsAscii, IsCharacter};
 ghost use Rattle.scr_cells.specs.Grids.{grid_at, grid_filled, grid_of, grid_row, is_in_run, places_left, places_right, rows_down, rows_up};
 ghost use Rattle.scr_cells.specs.LookViews.{IsLook, LookView, blank};
 ghost use Rattle.scr_cells.specs.PictureViews.{IsPlace};
@@ -80,7 +81,7 @@ impl Display {
         ensures look { IsLook result }
     {
         let look = self.grid.at(row, column);
-        let _byte = look.byte();
+        let _code = look.code();
         look
     }
 
@@ -104,21 +105,21 @@ impl Display {
     /// The pen that the next character is written with.
     pub(crate) fn pen(&self) -> Pen
         ensures value { result ≡ self.now.state.pen }
-        ensures shown { IsShownPen (full_abilities self.now.rows self.now.columns) result }
+        ensures shown { IsShownPen (full_abilities Utf8 self.now.rows self.now.columns) result }
     {
         self.pen
     }
 
-    /// Writes a graphic character at the cursor, which goes right. At the margin it returns false
-    /// and changes nothing.
-    pub(crate) fn write(&mut self, byte: u8) -> bool
-        requires { IsAscii byte }
-        ensures answer { result ≡ is_some (character_written self.old.columns self.old.state byte) }
-        ensures state { self.new ≡ gone_on self.old (character_written self.old.columns self.old.state byte) }
+    /// Writes a character at the cursor, which goes right. At the margin it returns false and
+    /// changes nothing.
+    pub(crate) fn write(&mut self, character: char) -> bool
+        requires { IsCharacter character }
+        ensures answer { result ≡ is_some (character_written self.old.columns self.old.state character) }
+        ensures state { self.new ≡ gone_on self.old (character_written self.old.columns self.old.state character) }
     {
-        match (self.spot, Look::written(byte, self.pen)) {
+        match (self.spot, Look::of(character, self.pen)) {
             (Spot::At(row, column), Some(look)) => {
-                let _byte = look.byte();
+                let _code = look.code();
                 look_grid_laws();
                 self.grid.put(row, column, look);
                 self.spot = if column + 1 < self.grid.columns() {
@@ -143,7 +144,7 @@ impl Display {
         let columns = self.grid.columns();
         match (self.spot, Look::written(byte, self.pen)) {
             (Spot::At(row, column), Some(look)) if column + count < columns => {
-                let _byte = look.byte();
+                let _code = look.code();
                 grid_laws::<Look>();
                 self.grid.fill(row, column, column + count, look);
                 self.spot = Spot::At(row, column + count);

@@ -1,20 +1,20 @@
 //! Control functions: what a whole unit of an ECMA-48 text changes. `parameters` reads the
 //! parameters of a control sequence, and `displays` makes the changes.
 ghost use Rattle.std.specs.Prelude.{◌≡◌, ◌≤◌, ℕ, List, ◌∷◌, None, option_and_then, option_map, IfSome, unwrap_or};
+ghost use Rattle.scr_cells.specs.declared.charsets.Charset.TheVariants.{Utf8};
 ghost use Rattle.scr_cells.specs.PenViews.{IsColour, with_attribute};
 ghost use Rattle.scr_term.specs.Operations.Abilities.{full_abilities};
 ghost use Rattle.scr_term.specs.Operations.States.{IsShownPen, IsSpot};
 ghost use Rattle.scr_term.specs.Ecma.Units.{Control, Sequence};
 ghost use Rattle.scr_term.specs.Ecma.Meanings.{meaning, choice_of, control_character, control_function, count_of, cursor_at, cursor_character_absolute, cursor_position, erase_in_line, erase_in_page, line_position_absolute, rendition, rendition_attribute, renditions};
 ghost use Rattle.scr_terminal.specs.Code.Changes.{IsChange, Makes, MakesAt, MakesWith};
-ghost use Rattle.scr_terminal.specs.Code.Readings.{IsReading};
+ghost use Rattle.scr_terminal.specs.Code.Readings.{IsLast};
 
 use crate::displays::{
     Change, characters_erased, moved_down, moved_left, moved_right, moved_to, moved_to_column,
     moved_to_row, moved_up, rest_of_line_erased,
 };
 use crate::ecma::parameters::parameters;
-use crate::ecma::readings::Reading;
 use bitflags::Flags;
 use scr_cells::{Attrs, Pen, Size};
 use scr_term::{Spot, shown_pen_laws};
@@ -29,8 +29,8 @@ pub(crate) fn control_sequence(
     last: u8,
 ) -> Option<Change>
     requires spot { IsSpot size.rows size.columns spot }
-    requires shown { IsShownPen (full_abilities size.rows size.columns) pen }
-    requires sequence { IsReading part.now last Reading.Last }
+    requires shown { IsShownPen (full_abilities Utf8 size.rows size.columns) pen }
+    requires sequence { IsLast part.now last }
     ensures value { (ps : List ℕ) → part.now ≡ 27 ∷ 91 ∷ ps → MakesWith size.rows size.columns spot pen result (λ state. meaning size.rows size.columns state (Sequence ps last)) }
     ensures change { IfSome result (IsChange size.rows size.columns) }
 {
@@ -201,7 +201,7 @@ fn control_function(
     last: u8,
 ) -> Option<Change>
     requires spot { IsSpot size.rows size.columns spot }
-    requires shown { IsShownPen (full_abilities size.rows size.columns) pen }
+    requires shown { IsShownPen (full_abilities Utf8 size.rows size.columns) pen }
     ensures value { MakesWith size.rows size.columns spot pen result (λ state. control_function size.rows size.columns state parameters.now last) }
     ensures change { IfSome result (IsChange size.rows size.columns) }
 {

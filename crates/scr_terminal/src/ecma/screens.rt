@@ -2,36 +2,40 @@
 //! make a control function, and what it changes.
 ghost use Rattle.std.specs.Prelude.{◌≡◌, ◌+◌, ◌<◌, ◌↔◌, false, length, [], ◌∷◌, bit_and, option_map, IfOk, IsOk, IsTrue};
 ghost use Rattle.std.specs.Option.{ForSome};
+ghost use Rattle.scr_cells.specs.declared.charsets.Charset.TheVariants.{Ascii};
 ghost use Rattle.scr_cells.specs.Attributes.{every_attribute};
 ghost use Rattle.scr_cells.specs.Characters.{IsAscii};
 ghost use Rattle.scr_cells.specs.Grids.{grid_at, grid_row};
 ghost use Rattle.scr_cells.specs.LookViews.{IsLook, LookView};
 ghost use Rattle.scr_cells.specs.PictureViews.{IsPlace};
 ghost use Rattle.scr_term.specs.Operations.States.{IsSpot, character_written};
-ghost use Rattle.scr_term.specs.Ecma.Units.{IsWaiting};
+ghost use Rattle.scr_term.specs.Ecma.Meanings.{meaning};
+ghost use Rattle.scr_term.specs.Ecma.Units.{IsWaiting, Spelled};
 ghost use Rattle.scr_terminal.specs.Ecma.Screens.{IsScreen, IsFed, blank_screen};
 ghost use Rattle.scr_terminal.specs.Code.Changes.{IsChange, changed};
-ghost use Rattle.scr_terminal.specs.Code.Readings.{IsReading, acted};
+ghost use Rattle.scr_terminal.specs.Code.Readings.{IsLast, IsReading, acted};
 
 use crate::displays::{Change, Display};
 use crate::ecma::controls::{control_character, control_sequence};
 use crate::ecma::readings::{Reading, read_byte};
 use crate::undefined::Undefined;
 use arrayvec::ArrayVec;
-use scr_cells::{Attrs, Look, NoMemory, Size};
+use scr_cells::{Attrs, Charset, Look, NoMemory, Size, is_beyond_ascii};
 use scr_term::Spot;
 use std::alloc::Global;
 use std::marker::Model;
 
 /// An emulated ECMA-48 screen: it reads a text in pieces, and shows what the text does.
 ///
-/// These have a meaning: graphic characters, BS, CR, CUU, CUD, CUF, CUB, CHA, VPA, CUP, ED with 0
-/// or 2, EL with 0, ECH, and SGR with its colours. Every other unit is undefined. After the first
-/// undefined unit the screen stays as it is.
+/// These have a meaning: graphic characters of ASCII and, where the text is UTF-8, the other
+/// characters (`is_character`); BS, CR, CUU, CUD, CUF, CUB, CHA, VPA, CUP, ED with 0 or 2, EL with
+/// 0, ECH, and SGR with its colours. Every other unit is undefined. After the first undefined unit
+/// the screen stays as it is.
 #[derive(Drop)]
 pub struct EcmaScreen {
     display: Display,
-    // The beginning of a control sequence, after the last whole unit.
+    charset: Charset,
+    // The beginning of a unit, after the last whole one.
     waiting: ArrayVec<u8, 64>,
     undefined: bool,
 }
@@ -44,6 +48,7 @@ impl Model for EcmaScreen {
     ghost view = { λ a. record {
       rows = a.display.rows;
       columns = a.display.columns;
+      charset = a.charset;
       state = a.display.state;
       waiting = a.waiting.items;
       undefined = a.undefined;
@@ -52,6 +57,7 @@ impl Model for EcmaScreen {
     ghost invariant = { λ a. IsScreen (record {
       rows = a.display.rows;
       columns = a.display.columns;
+      charset = a.charset;
       state = a.display.state;
       waiting = a.waiting.items;
       undefined = a.undefined;
@@ -59,15 +65,26 @@ impl Model for EcmaScreen {
 }
 
 impl EcmaScreen {
-    /// A blank screen: cursor at row 0, column 0, no attribute on, default colours. Fails only when
-    /// memory runs out.
+    /// A blank screen for a text in ASCII: cursor at row 0, column 0, no attribute on, default
+    /// colours. Fails only when memory runs out.
     pub fn new(alloc: Global, size: Size) -> Result<EcmaScreen, NoMemory>
-        ensures { IfOk result (λ screen. screen ≡ blank_screen size.rows size.columns) }
+        ensures { IfOk result (λ screen. screen ≡ blank_screen Ascii size.rows size.columns) }
+    {
+        EcmaScreen::new_as(alloc, size, Charset::Ascii)
+    }
+
+    /// A blank screen, as `new` makes it, for a text in ASCII or in UTF-8. In UTF-8 each scalar
+    /// value from U+00A0 to U+FFFF is a unit, which is undefined if it is no character
+    /// (`is_character`); C1 control functions and scalar values above U+FFFF are no units (RFC 3629,
+    /// 4). Fails only when memory runs out.
+    pub fn new_as(alloc: Global, size: Size, charset: Charset) -> Result<EcmaScreen, NoMemory>
+        ensures { IfOk result (λ screen. screen ≡ blank_screen charset size.rows size.columns) }
     {
         let display = Display::new(alloc, size)?;
         let _size = display.size();
         Ok(EcmaScreen {
             display,
+            charset,
             waiting: ArrayVec::new(),
             undefined: false,
         })
@@ -149,9 +166,17 @@ impl EcmaScreen {
         (pen.foreground(), pen.background())
     }
 
-    /// Whether the text so far ends inside a control sequence (ECMA-48, 5.4 'Control sequences').
+    /// The charset of the text.
+    pub fn charset(&self) -> Charset
+        ensures { result ≡ self.now.charset }
+    {
+        self.charset
+    }
+
+    /// Whether the text so far ends inside a unit: a control sequence (ECMA-48, 5.4 'Control
+    /// sequences'), or a character of more than one byte (RFC 3629, 4).
     pub fn waiting(&self) -> bool
-        ensures { IsTrue result ↔ IsWaiting self.now.waiting }
+        ensures { IsTrue result ↔ IsWaiting self.now.charset self.now.waiting }
     {
         !self.waiting.as_slice().is_empty()
     }
@@ -164,8 +189,9 @@ impl EcmaScreen {
             return;
         }
         let part = self.waiting.as_slice();
-        match read_byte(part, byte) {
+        match read_byte(self.charset, part, byte) {
             Reading::Graphic => self.write(byte),
+            Reading::Spelled(character) => self.take_character(character),
             Reading::Control => self.take_control(byte),
             Reading::Held => self.waiting.push(byte),
             Reading::Last => self.take_last(byte),
@@ -173,12 +199,24 @@ impl EcmaScreen {
         }
     }
 
-    // Reads a control function of one byte. This function and the next are separate so that graphic
-    // characters set up no change.
+    // Reads the last byte of a character above ASCII. This function and the next two are separate so
+    // that characters of ASCII set up neither a character nor a change.
+    #[inline(never)]
+    fn take_character(&mut self, character: char)
+        ensures { self.new ≡ acted self.old (meaning self.old.rows self.old.columns self.old.state (Spelled character)) }
+    {
+        self.waiting.clear();
+        if !is_beyond_ascii(character) || !self.display.write(character) {
+            self.undefined = true;
+        }
+        let _size = self.display.size();
+    }
+
+    // Reads a control function of one byte.
     #[inline(never)]
     fn take_control(&mut self, byte: u8)
         requires defined { self.old.undefined ≡ false }
-        requires reading { IsReading self.old.waiting byte Reading.Control }
+        requires reading { IsReading self.old.charset self.old.waiting byte Reading.Control }
         ensures { IsFed self.old (byte ∷ []) self.new }
     {
         let change = control_character(self.display.size(), self.display.spot(), byte);
@@ -189,7 +227,7 @@ impl EcmaScreen {
     #[inline(never)]
     fn take_last(&mut self, byte: u8)
         requires defined { self.old.undefined ≡ false }
-        requires reading { IsReading self.old.waiting byte Reading.Last }
+        requires reading { IsLast self.old.waiting byte }
         ensures { IsFed self.old (byte ∷ []) self.new }
     {
         let part = self.waiting.as_slice();
@@ -204,7 +242,7 @@ impl EcmaScreen {
         requires whole { self.old.waiting ≡ [] }
         ensures { self.new ≡ acted self.old (character_written self.old.columns self.old.state byte) }
     {
-        if !self.display.write(byte) {
+        if !self.display.write(char::from(byte)) {
             self.undefined = true;
         }
         let _size = self.display.size();

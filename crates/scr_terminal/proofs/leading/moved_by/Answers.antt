@@ -11,6 +11,7 @@ change_of-requires c = record {
   spot = search rules;
   pen = c.is_shown_by_all.ensures.shown _ _ (search rules);
   one = search rules;
+  written = search rules;
   several = search rules;
 }
 

@@ -1,4 +1,5 @@
 use Rattle.std.proofs.Common.{subst, sym}
+use Rattle.scr_cells.specs.declared.charsets.Charset.TheVariants.{Utf8}
 use Rattle.scr_term.specs.Operations.Abilities.{full_abilities}
 use Rattle.scr_term.specs.Operations.States.{IsShownPen}
 use Rattle.scr_term.specs.Operations.States.{moved_down, moved_left, moved_right, moved_to_column, moved_to_row, moved_up}
@@ -7,7 +8,7 @@ use Rattle.scr_terminal.proofs.steps.change_of.Goals as goal
 
 pub returns-in-Reset-clause-change : goal.returns-in-Reset-clause-change
 returns-in-Reset-clause-change c =
-    subst (IsShownPen (full_abilities c.args.profile.now.rows c.args.profile.now.columns)) (sym c.next_pen.ensures) (next_is_shown c.shown_pen_laws.ensures c.args.profile.now c.args.pen c.args.op c.requires.has c.requires.pen)
+    subst (IsShownPen (full_abilities Utf8 c.args.profile.now.rows c.args.profile.now.columns)) (sym c.next_pen.ensures) (next_is_shown c.shown_pen_laws.ensures c.args.profile.now c.args.pen c.args.op c.requires.has c.requires.pen)
 
 pub returns-in-Up-clause-value : goal.returns-in-Up-clause-value
 returns-in-Up-clause-value c =

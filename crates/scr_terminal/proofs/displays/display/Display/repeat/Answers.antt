@@ -15,4 +15,4 @@ invariant_of-self c =
     let count = c.in-At-Some.column + c.args.count - c.in-At-Some.column in
     let inside : c.in-At-Some.column + c.args.count < grid.columns = grind (arith, nat_tests, c.if-column-count.true, c.columns-columns.ensures.value) in
     run_is_display c.grid_laws.ensures old c.fill.new.self c.in-At-Some.row c.in-At-Some.column (replicate count c.in-At-Some.look) (At c.in-At-Some.row (c.in-At-Some.column + c.args.count))
-    c.self.invariant here.0 (omega (arith, inside, length-replicate count c.in-At-Some.look)) (many_looks count c.in-At-Some.look c.byte-byte.ensures.look) c.fill.ensures (here.0, inside)
+    c.self.invariant here.0 (omega (arith, inside, length-replicate count c.in-At-Some.look)) (many_looks count c.in-At-Some.look c.code-code.ensures.look) c.fill.ensures (here.0, inside)

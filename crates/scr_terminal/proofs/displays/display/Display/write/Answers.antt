@@ -15,4 +15,4 @@ invariant_of-self c =
       | then-column-columns w ↦ subst (IsSpot grid.rows grid.columns) (sym w.self-is) (here.0, grind (arith, nat_tests, w.if-column-columns, c.columns.ensures.value))
       | else-column-columns w ↦ subst (IsSpot grid.rows grid.columns) (sym w.self-is) here.0
     ] in
-    written_is_display c.look_grid_laws.ensures old c.put.new.self c.in-At-Some.row c.in-At-Some.column c.in-At-Some.look c.if-column-columns.self c.self.invariant here.0 c.byte-byte.ensures.look c.put.ensures inside
+    written_is_display c.look_grid_laws.ensures old c.put.new.self c.in-At-Some.row c.in-At-Some.column c.in-At-Some.look c.if-column-columns.self c.self.invariant here.0 c.code-code.ensures.look c.put.ensures inside

@@ -1,4 +1,5 @@
 use Rattle.std.proofs.Common.{◌+◌, ◌-◌, refl, take, ◌∙◌, ap, arith, subst, sym, rules}
+use Rattle.scr_cells.specs.declared.charsets.Charset.TheVariants.{Utf8}
 use Rattle.scr_cells.specs.MadeRuns.{made_while}
 use Rattle.scr_terminal.specs.Code.Writing.{look_of, spot_after}
 use Rattle.scr_terminal.specs.Displays.{DisplayView}
@@ -27,7 +28,7 @@ invariant_of-self c =
     let old : DisplayView = record { rows = grid.rows; columns = grid.columns; state = record { grid = grid.lines; spot = c.self.inside.spot; pen = pen } } in
     let here = subst (IsSpot grid.rows grid.columns) c.in-At.is c.self.invariant.state.spot in
     let few = made_fits pen (grid.columns - c.in-At.column) c.args.ops.now in
-    let looks = made_are_looks pen (take (grid.columns - c.in-At.column) c.args.ops.now) (c.shown_pen_laws.ensures.pen (full_abilities grid.rows grid.columns) refl pen c.self.invariant.state.pen) in
+    let looks = made_are_looks pen (take (grid.columns - c.in-At.column) c.args.ops.now) (c.shown_pen_laws.ensures.pen (full_abilities Utf8 grid.rows grid.columns) refl pen c.self.invariant.state.pen) in
     let end = c.in-At.column + c.lay_while-count.result in
     let spot = c.spot_after-self-inside.ensures ∙ ap (λ n. spot_after n c.in-At.row end) c.columns-columns.ensures.value in
     run_is_display c.grid_laws.ensures old c.lay_while-count.new.self c.in-At.row c.in-At.column (made_while (look_of pen) (take (grid.columns - c.in-At.column) c.args.ops.now)) c.spot_after-self-inside.result

@@ -1,7 +1,6 @@
 use Rattle.std.proofs.Common.{sym, ap, subst, ◌∙◌}
 use Rattle.scr_terminal.specs.Ecma.Screens.{ScreenView}
-use Rattle.scr_terminal.specs.Code.Readings.{IsReading}
-use Rattle.scr_terminal.specs.declared.ecma.readings.Reading.TheVariants.{Last}
+use Rattle.scr_terminal.specs.Code.Readings.{IsLast}
 use Rattle.scr_terminal.proofs.EcmaFedLaws.{took_last}
 use Rattle.scr_terminal.proofs.ecma.screens.EcmaScreen.take_last.Goals as goal
 
@@ -11,7 +10,7 @@ returns c =
     let same = c.as_slice-part.ensures.value ∙ ap (λ (s : ScreenView). s.waiting) view in
     took_last c.args.self.now c.apply.new.self c.args.byte c.as_slice-part.result.now c.size-size.result.rows c.size-size.result.columns
     c.spot.result c.pen.result c.control_sequence-change.result c.requires.defined same
-    (subst (λ p. IsReading p c.args.byte Last) (sym same) c.requires.reading)
+    (subst (λ p. IsLast p c.args.byte) (sym same) c.requires.reading)
     (sym (c.size-size.ensures.rows ∙ ap (λ (s : ScreenView). s.rows) view))
     (sym (c.size-size.ensures.columns ∙ ap (λ (s : ScreenView). s.columns) view))
     (sym (c.spot.ensures.value ∙ ap (λ (s : ScreenView). s.state.spot) view))
