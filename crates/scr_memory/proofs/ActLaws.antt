@@ -9,7 +9,7 @@ use Rattle.scr_cells.specs.Grids.{IsGrid, grid_at, grid_filled, grid_of, grid_ro
 use Rattle.scr_cells.specs.LookViews.{LookView, blank, blank_grid}
 use Rattle.scr_cells.specs.PenViews.{PenView, is_plain_pen, plain_pen, with_attribute}
 use Rattle.scr_term.specs.declared.operations.operation.Op.{Op}
-use Rattle.scr_term.specs.declared.operations.operation.Op.TheVariants.{Home, Move, Column, Line, Up, Down, Left, Right, UpBy, DownBy, LeftBy, RightBy, Return, Clear, EraseLine, EraseBelow, EraseChars, InsertLines, DeleteLines, InsertChars, DeleteChars, ScrollUp, ScrollDown, Reset, ExitAttributes, Enter, Set, Fore, Back, Put, Repeat}
+use Rattle.scr_term.specs.declared.operations.operation.Op.TheVariants.{Home, Move, Column, Line, Up, Down, Left, Right, UpBy, DownBy, LeftBy, RightBy, Return, Clear, EraseLine, EraseBelow, EraseChars, InsertLines, DeleteLines, InsertChars, DeleteChars, ScrollUp, ScrollDown, Reset, ExitAttributes, Enter, Set, Fore, Back, Put, Write, Repeat}
 use Rattle.scr_term.specs.declared.operations.operation.Spot.{Spot}
 use Rattle.scr_term.specs.declared.operations.operation.Spot.TheVariants.{At, Margin}
 use Rattle.scr_term.specs.Operations.Profiles.{ProfileView}
@@ -39,6 +39,7 @@ spot_by columns (LeftBy n) (At r c) = At r (c - n)
 spot_by columns (RightBy n) (At r c) = At r (c + n)
 spot_by columns Return (At r c) = At r 0
 spot_by columns (Put byte) (At r c) = spot_after columns r c
+spot_by columns (Write code) (At r c) = spot_after columns r c
 spot_by columns (Repeat byte n) (At r c) = At r (c + n)
 spot_by columns op spot = spot
 
@@ -70,6 +71,7 @@ grid_by profile (ScrollUp n) (At r c) pen grid = grid_of profile.rows profile.co
 grid_by profile (ScrollDown n) (At r c) pen grid = grid_of profile.rows profile.columns (rows_down 0 profile.rows n blank (grid_at blank grid))
 grid_by profile (Repeat byte n) (At r c) pen grid = grid_with_run grid r c (replicate n (record { character = byte; pen = pen }))
 grid_by profile (Put byte) (At r c) pen grid = grid_with grid r c (record { character = byte; pen = pen })
+grid_by profile (Write code) (At r c) pen grid = grid_with grid r c (record { character = code; pen = pen })
 grid_by profile op spot pen grid = grid
 
 -- ---- an operation acts on each of them
@@ -173,7 +175,10 @@ acts profile (Back k) grid (At r c) pen new e = led profile (Back k) grid (At r 
 acts profile (Back k) grid (Margin r) pen new e = (cc)
 acts profile (Put byte) grid (At r c) pen new e =
     led profile (Put byte) grid (At r c) pen new (whole (grid_with grid r c (record { character = byte; pen = pen })) (spot_after profile.columns r c) pen) refl refl refl e
+acts profile (Write code) grid (At r c) pen new e =
+    led profile (Write code) grid (At r c) pen new (whole (grid_with grid r c (record { character = code; pen = pen })) (spot_after profile.columns r c) pen) refl refl refl e
 acts profile (Put byte) grid (Margin r) pen new e = (cc)
+acts profile (Write code) grid (Margin r) pen new e = (cc)
 acts profile (Repeat byte n) grid (At r c) pen new e =
     led profile (Repeat byte n) grid (At r c) pen new (whole (grid_with_run grid r c (replicate n (record { character = byte; pen = pen }))) (At r (c + n)) pen) refl refl refl (when _ _ new e)
 acts profile (Repeat byte n) grid (Margin r) pen new e = (cc)
@@ -245,7 +250,10 @@ rows_same profile (DeleteChars n) (At row column) pen a b first second r high st
 rows_same profile (DeleteChars n) (Margin row) pen a b first second r high still same = same
 rows_same profile (Put byte) (At row column) pen a b first second r high still same =
     changed_same (λ line. slice_set line column (record { character = byte; pen = pen })) a b row r (omega (arith, high, first.high)) (omega (arith, high, second.high)) same (r == row) refl
+rows_same profile (Write code) (At row column) pen a b first second r high still same =
+    changed_same (λ line. slice_set line column (record { character = code; pen = pen })) a b row r (omega (arith, high, first.high)) (omega (arith, high, second.high)) same (r == row) refl
 rows_same profile (Put byte) (Margin row) pen a b first second r high still same = same
+rows_same profile (Write code) (Margin row) pen a b first second r high still same = same
 rows_same profile (Repeat byte n) (At row column) pen a b first second r high still same =
     changed_same (λ line. line_with_run line column (replicate n (record { character = byte; pen = pen }))) a b row r (omega (arith, high, first.high)) (omega (arith, high, second.high)) same (r == row) refl
 rows_same profile (Repeat byte n) (Margin row) pen a b first second r high still same = same

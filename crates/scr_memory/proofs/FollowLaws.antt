@@ -5,11 +5,12 @@ use Rattle.std.proofs.lemmas.Bool.Decides.{nat_tests}
 use Rattle.std.proofs.lemmas.List.{get_or-set_other, length-map, length-replicate, length-set}
 use Rattle.std.proofs.lemmas.List.FromFn.{get_or-map-range_with_len, length-range_with_len}
 use Rattle.std.proofs.lemmas.Nat.{and_le_l}
+use Rattle.scr_cells.specs.declared.charsets.Charset.TheVariants.{Utf8}
 use Rattle.scr_cells.specs.Grids.{GridLaws, IsGrid, grid_at, grid_of, grid_row, is_in_run}
 use Rattle.scr_cells.specs.LookViews.{LookView, blank}
 use Rattle.scr_cells.specs.PenViews.{PenView, plain_pen}
 use Rattle.scr_term.specs.declared.operations.operation.Op.{Op}
-use Rattle.scr_term.specs.declared.operations.operation.Op.TheVariants.{Home, Move, Clear, EraseLine, EraseBelow, EraseChars, InsertLines, DeleteLines, InsertChars, DeleteChars, ScrollUp, ScrollDown, Reset, Set, Put, Repeat}
+use Rattle.scr_term.specs.declared.operations.operation.Op.TheVariants.{Home, Move, Clear, EraseLine, EraseBelow, EraseChars, InsertLines, DeleteLines, InsertChars, DeleteChars, ScrollUp, ScrollDown, Reset, Set, Put, Write, Repeat}
 use Rattle.scr_term.specs.declared.operations.operation.Spot.{Spot}
 use Rattle.scr_term.specs.declared.operations.operation.Spot.TheVariants.{At, Margin}
 use Rattle.scr_term.specs.Operations.Abilities.{Abilities, full_abilities}
@@ -82,7 +83,7 @@ forgotten_possible pens abilities memory may = record {
 
 possible_again : ShownPenLaws → (abilities : Abilities) (memory : MemoryView) → IsMemory memory → memory.rows ≡ abilities.rows → memory.columns ≡ abilities.columns → MayBe abilities (forgotten memory)
 possible_again pens abilities memory is rows columns = record {
-  state = plain_state pens abilities (full_abilities memory.rows memory.columns) rows columns memory.state is.state;
+  state = plain_state pens abilities (full_abilities Utf8 memory.rows memory.columns) rows columns memory.state is.state;
   high = length-replicate (length memory.known_rows) false ∙ is.whole ∙ rows;
 }
 
@@ -180,6 +181,7 @@ kept_same profile (DeleteLines n) s p a e f g = (cc)
 kept_same profile (ScrollUp n) s p a e f g = (cc)
 kept_same profile (ScrollDown n) s p a e f g = (cc)
 kept_same profile (Put byte) s p a e f g = (cc)
+kept_same profile (Write code) s p a e f g = (cc)
 kept_same profile (Repeat byte n) s p a e f g = (cc)
 kept_same profile op s p a e f g = refl
 

@@ -2,12 +2,13 @@
 -- redrawwin().
 use Rattle.std.specs.Prelude.{ℕ, zero, ◌≡◌, ◌+◌, ◌<◌, ◌==◌, ◌&&◌, ◌||◌, not, leb, ltb, Bool, true, false, List, [], ◌∷◌, length, map, replicate, slice_index_or, slice_set, Option, Some, None, if◌then◌else◌}
 use Rattle.std.specs.List.{list_all, range_with_len}
+use Rattle.scr_cells.specs.declared.charsets.Charset.TheVariants.{Utf8}
 use Rattle.scr_cells.specs.Grids.{grid_row}
 use Rattle.scr_cells.specs.LookViews.{LookView}
 use Rattle.scr_cells.specs.PenViews.{PenView, plain_pen}
 use Rattle.scr_cells.specs.PictureViews.{IsSize}
 use Rattle.scr_term.specs.declared.operations.operation.Op.{Op}
-use Rattle.scr_term.specs.declared.operations.operation.Op.TheVariants.{Home, Move, Clear, EraseLine, EraseBelow, EraseChars, InsertLines, DeleteLines, InsertChars, DeleteChars, ScrollUp, ScrollDown, Reset, Set, Put, Repeat}
+use Rattle.scr_term.specs.declared.operations.operation.Op.TheVariants.{Home, Move, Clear, EraseLine, EraseBelow, EraseChars, InsertLines, DeleteLines, InsertChars, DeleteChars, ScrollUp, ScrollDown, Reset, Set, Put, Write, Repeat}
 use Rattle.scr_term.specs.declared.operations.operation.Spot.{Spot}
 use Rattle.scr_term.specs.declared.operations.operation.Spot.TheVariants.{At, Margin}
 use Rattle.scr_term.specs.Operations.Abilities.{Abilities, full_abilities}
@@ -29,7 +30,7 @@ pub record MemoryView : Type 0 where
 -- known.
 pub record IsMemory (memory : MemoryView) : Type 0 where
   pub size : IsSize memory.rows memory.columns
-  pub state : IsState (full_abilities memory.rows memory.columns) memory.state
+  pub state : IsState (full_abilities Utf8 memory.rows memory.columns) memory.state
   pub whole : length memory.known_rows ≡ memory.rows
 
 -- The memory in which nothing is known.
@@ -151,6 +152,7 @@ changes_cells (EraseChars n) = true
 changes_cells (InsertChars n) = true
 changes_cells (DeleteChars n) = true
 changes_cells (Put byte) = true
+changes_cells (Write code) = true
 changes_cells (Repeat byte n) = true
 changes_cells op = false
 

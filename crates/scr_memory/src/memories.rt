@@ -371,6 +371,7 @@ fn changes_cells(op: Op) -> bool
             | Op::InsertChars(_)
             | Op::DeleteChars(_)
             | Op::Put(_)
+            | Op::Write(_)
             | Op::Repeat(..)
     )
 }

@@ -104,7 +104,7 @@ impl Samples {
     // Adds a row that differs from a column on, unless it is wanted blank.
     fn add(&mut self, chooser: &Chooser<'_>, row: u32, column: u32) -> Result<(), NoMemory> {
         let cells = chooser.cells(row);
-        let code = code_at(cells, column);
+        let code = code_at(chooser, cells, column);
         if code == BLANK && is_blank(chooser, cells) {
             return Ok(());
         }
@@ -247,10 +247,10 @@ impl Distance {
     }
 }
 
-// The character of the cell in a column; a blank if there is none.
-fn code_at(cells: &[Cell], column: u32) -> u32 {
+// The character that is seen of the cell in a column; a blank if there is none.
+fn code_at(chooser: &Chooser<'_>, cells: &[Cell], column: u32) -> u32 {
     match cells.get(column as usize) {
-        Some(cell) => cell.code(),
+        Some(cell) => chooser.code_of(*cell),
         None => BLANK,
     }
 }
@@ -260,7 +260,7 @@ fn code_at(cells: &[Cell], column: u32) -> u32 {
 fn is_alike<P: RowPrices>(prices: &P, looks: &[Look], sample: &Sample) -> bool {
     let column = sample.column as usize;
     column < looks.len()
-        && u32::from(looks[column].byte()) == sample.code
+        && looks[column].code() == sample.code
         && prices.is_shown(sample.row, looks)
 }
 

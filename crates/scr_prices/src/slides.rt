@@ -146,12 +146,12 @@ fn insertion(chooser: &Chooser<'_>, shown: &RowRuns<'_>, column: u32) -> Option<
     if are_blank(&looks[from..from + PATTERN]) {
         return None;
     }
-    let code = u32::from(looks[from].byte());
+    let code = looks[from].code();
     for at in from + 1..cells.len() - (PATTERN - 1) {
         if at - from > cells.len() - at {
             return None;
         }
-        if cells[at].code() == code && are_seen(chooser, looks, from, cells, at) {
+        if chooser.code_of(cells[at]) == code && are_seen(chooser, looks, from, cells, at) {
             return Some(slide_from(column, at - from, true));
         }
     }
@@ -170,9 +170,9 @@ fn deletion(chooser: &Chooser<'_>, shown: &RowRuns<'_>, column: u32) -> Option<S
     if is_blank(chooser, &cells[from..from + PATTERN]) {
         return None;
     }
-    let code = cells[from].code();
+    let code = chooser.code_of(cells[from]);
     for at in from + 1..looks.len() - (PATTERN - 1) {
-        if u32::from(looks[at].byte()) == code && are_seen(chooser, looks, at, cells, from) {
+        if looks[at].code() == code && are_seen(chooser, looks, at, cells, from) {
             return Some(slide_from(column, at - from, false));
         }
     }
@@ -211,7 +211,7 @@ fn are_seen(chooser: &Chooser<'_>, looks: &[Look], from: usize, cells: &[Cell], 
 // Whether a look is what is seen of a cell.
 #[inline(always)]
 fn is_seen(chooser: &Chooser<'_>, look: Look, cell: Cell) -> bool {
-    u32::from(look.byte()) == cell.code() && look.pen() == chooser.pen_of(cell)
+    look.code() == chooser.code_of(cell) && look.pen() == chooser.pen_of(cell)
 }
 
 // Whether looks are all blank.

@@ -4,7 +4,7 @@
 use crate::motions::places::{Place, price_of_motion};
 use crate::motions::turns::cheapest_turn;
 use crate::runs::{How, Run};
-use scr_cells::{Attrs, Cell, Pen, Picture};
+use scr_cells::{Attrs, Cell, Charset, Pen, Picture};
 use scr_term::{Op, Prices, Profile, Spot};
 
 /// Where the cursor is, and its pen.
@@ -82,6 +82,7 @@ pub struct Chooser<'a> {
     /// What is to be shown.
     pub picture: &'a Picture,
     columns: u32,
+    charset: Charset,
     shown: Attrs,
     colours: bool,
     moves_in_any_rendition: bool,
@@ -97,6 +98,7 @@ impl<'a> Chooser<'a> {
             prices,
             picture,
             columns: picture.size().columns,
+            charset: profile.charset(),
             shown: profile.shows(),
             colours: profile.colours(),
             moves_in_any_rendition: profile.moves_in_any_rendition(),
@@ -234,6 +236,12 @@ impl<'a> Chooser<'a> {
             }
         }
         true
+    }
+
+    /// The code of the character that is seen of a cell.
+    #[inline(always)]
+    pub fn code_of(&self, cell: Cell) -> u32 {
+        self.charset.seen(cell)
     }
 
     /// The pen that a cell is seen with.

@@ -126,12 +126,12 @@ taking_holds laws v part lines cells state is =
       changed = record {
         grows = λ r c was. grown (is_copied part lines) all v.changed r c (λ h e. all_are.grows r c (get_or v.changed r None) e) was;
         cells = cells_held laws v part lines cells state all v.changed all_are is.rows;
-        holds = λ mask colours r c h b out. ap (seen mask colours v.picture.pairs) (cells_held laws v part lines cells state all v.changed all_are is.rows r c h b out);
+        holds = λ charset mask colours r c h b out. ap (seen charset mask colours v.picture.pairs) (cells_held laws v part lines cells state all v.changed all_are is.rows r c h b out);
       };
       altered = record {
         grows = λ r c was. grown (is_copied part lines) unlike v.altered r c (λ h e. unlike_are.grows r c (get_or v.altered r None) e) was;
         cells = cells_held laws v part lines cells state unlike v.altered unlike_are is.altered_rows;
-        holds = λ mask colours r c h b out. ap (seen mask colours v.picture.pairs) (cells_held laws v part lines cells state unlike v.altered unlike_are is.altered_rows r c h b out);
+        holds = λ charset mask colours r c h b out. ap (seen charset mask colours v.picture.pairs) (cells_held laws v part lines cells state unlike v.altered unlike_are is.altered_rows r c h b out);
       };
     }
 
@@ -153,8 +153,8 @@ marked_grows columns first n ranges r c are was = grown (λ r. leb first r && lt
 marking_holds : (v : VirtualView) (first n : ℕ) → IsVirtual v → HoldsChanges v (marked_rows first n v)
 unfolding marked_rows
 marking_holds v first n is = record {
-  changed = record { grows = λ r c was. marked_grows v.picture.columns first n v.changed r c is.ranges was; cells = λ r c h b out. refl; holds = λ mask colours r c h b out. refl };
-  altered = record { grows = λ r c was. marked_grows v.picture.columns first n v.altered r c is.altered_ranges was; cells = λ r c h b out. refl; holds = λ mask colours r c h b out. refl };
+  changed = record { grows = λ r c was. marked_grows v.picture.columns first n v.changed r c is.ranges was; cells = λ r c h b out. refl; holds = λ charset mask colours r c h b out. refl };
+  altered = record { grows = λ r c was. marked_grows v.picture.columns first n v.altered r c is.altered_ranges was; cells = λ r c h b out. refl; holds = λ charset mask colours r c h b out. refl };
 }
 
 -- where every row is whole, no column is outside
@@ -177,19 +177,19 @@ pair_holds v pair foreground background is = record {
   changed = record {
     grows = λ r c was. marked_grows v.picture.columns 0 v.picture.rows v.changed r c is.ranges was;
     cells = λ r c h b out. refl;
-    holds = λ mask colours r c h b out. absurd (nothing_outside v.picture.rows v.picture.columns v.changed r c is.rows h b out);
+    holds = λ charset mask colours r c h b out. absurd (nothing_outside v.picture.rows v.picture.columns v.changed r c is.rows h b out);
   };
   altered = record {
     grows = λ r c was. marked_grows v.picture.columns 0 v.picture.rows v.altered r c is.altered_ranges was;
     cells = λ r c h b out. refl;
-    holds = λ mask colours r c h b out. absurd (nothing_outside v.picture.rows v.picture.columns v.altered r c is.altered_rows h b out);
+    holds = λ charset mask colours r c h b out. absurd (nothing_outside v.picture.rows v.picture.columns v.altered r c is.altered_rows h b out);
   };
 }
 
 nothing_holds : (v : VirtualView) → HoldsChanges v v
 nothing_holds v = record {
-  changed = record { grows = λ r c was. was; cells = λ r c h b out. refl; holds = λ mask colours r c h b out. refl };
-  altered = record { grows = λ r c was. was; cells = λ r c h b out. refl; holds = λ mask colours r c h b out. refl };
+  changed = record { grows = λ r c was. was; cells = λ r c h b out. refl; holds = λ charset mask colours r c h b out. refl };
+  altered = record { grows = λ r c was. was; cells = λ r c h b out. refl; holds = λ charset mask colours r c h b out. refl };
 }
 
 -- a call that refuses two things, or does one

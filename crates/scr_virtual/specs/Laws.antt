@@ -3,6 +3,7 @@ use Rattle.std.specs.Prelude.{ℕ, Bool, true, false, ◌≡◌, ◌+◌, ◌-�
 use Rattle.scr_cells.specs.CellViews.{CellView, blank_cell}
 use Rattle.scr_cells.specs.Grids.{grid_at}
 use Rattle.scr_cells.specs.LookViews.{LookView, seen}
+use Rattle.scr_cells.specs.declared.charsets.Charset.{Charset}
 use Rattle.scr_windows.specs.DeskViews.{DeskView, window_at}
 use Rattle.scr_windows.specs.Changes.{index_of}
 use Rattle.scr_virtual.specs.Ranges.{in_range}
@@ -14,15 +15,16 @@ use Rattle.scr_virtual.specs.Taking.{take_pad_call, take_window_call}
 abbrev pub cell_at : VirtualView → ℕ → ℕ → CellView
 cell_at virtual r c = grid_at blank_cell virtual.picture.lines r c
 
--- What is seen of that cell on a terminal that shows these attributes, and colours or none.
-abbrev pub seen_at : ℕ → Bool → VirtualView → ℕ → ℕ → LookView
-seen_at shown colours virtual r c = seen shown colours virtual.picture.pairs (cell_at virtual r c)
+-- What is seen of that cell on a terminal with this charset that shows these attributes, and colours or none.
+abbrev pub seen_at : Charset → ℕ → Bool → VirtualView → ℕ → ℕ → LookView
+seen_at charset shown colours virtual r c = seen charset shown colours virtual.picture.pairs (cell_at virtual r c)
 
 -- No range loses a column, and a place outside the new ranges has its cell and look as before.
 pub record HoldsIn (ranges : VirtualView → ℕ → Option (ℕ × ℕ)) (old new : VirtualView) : Type 0 where
   pub grows : (r c : ℕ) → in_range (ranges old r) c ≡ true → in_range (ranges new r) c ≡ true
   pub cells : (r c : ℕ) → r < old.picture.rows → c < old.picture.columns → in_range (ranges new r) c ≡ false → cell_at new r c ≡ cell_at old r c
-  pub holds : (shown : ℕ) (colours : Bool) (r c : ℕ) → r < old.picture.rows → c < old.picture.columns → in_range (ranges new r) c ≡ false → seen_at shown colours new r c ≡ seen_at shown colours old r c
+  pub holds : (charset : Charset) (shown : ℕ) (colours : Bool) (r c : ℕ) → r < old.picture.rows → c < old.picture.columns → in_range (ranges new r) c ≡ false
+      → seen_at charset shown colours new r c ≡ seen_at charset shown colours old r c
 
 -- This holds of both kinds of range: columns that may have changed, and columns that may look different.
 pub record HoldsChanges (old new : VirtualView) : Type 0 where
