@@ -8,6 +8,7 @@ pub mod CopyLaws
 pub mod DeskLaws
 pub mod FamilyLaws
 pub mod FilledLaws
+pub mod FittedLaws
 pub mod FrameLaws
 pub mod GridLaws
 pub mod KeepingLaws

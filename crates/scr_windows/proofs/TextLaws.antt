@@ -1,6 +1,7 @@
 -- Texts that are added: a text in two parts, and the characters that a text begins with, written in one go.
-use Rattle.std.proofs.Common.{◌≡◌, ℕ, zero, suc, ◌+◌, ◌-◌, ◌<◌, ◌≤◌, ◌∙◌, ap, refl, sym, subst, arith, List, [], ◌∷◌, ◌++◌, length, take, drop, get_or, map, Some, None, Bool, true, false, cond, ◌==◌, ◌&&◌, ◌||◌, leb, ltb}
+use Rattle.std.proofs.Common.{◌≡◌, ℕ, zero, suc, ◌+◌, ◌-◌, ◌<◌, ◌≤◌, ◌∙◌, ap, refl, sym, subst, arith, List, [], ◌∷◌, ◌++◌, length, take, drop, get_or, map, Some, None, Bool, true, false, cond, ◌==◌, ◌&&◌, leb, ltb}
 use Rattle.std.specs.Prelude.{slice_set}
+use Rattle.std.specs.Char.{is_control}
 use Rattle.std.specs.List.{range_with_len}
 use Rattle.std.proofs.lemmas.Bool.Decides.{nat_tests}
 use Rattle.std.proofs.lemmas.List.{drop-drop, get_or-drop, get_or-set_same, get_or-take, length-drop, length-set, length-take, length-take-le, set-set, take-append-drop, take-take, take_all}
@@ -20,7 +21,7 @@ use Rattle.scr_windows.specs.Surfaces.SurfaceViews.{SurfaceView, IsPart, IsSurfa
 use Rattle.scr_windows.specs.DeskViews.{DeskView, IsThere, WindowView, no_attributes, no_window, surface_at, window_at}
 use Rattle.scr_windows.specs.Sheets.{with_surface}
 use Rattle.scr_windows.specs.Changes.{fill, marked, marked_lines, write}
-use Rattle.scr_windows.specs.Calls.Adding.{byte_added, character_added, either_stayed, gone_to, line_begun, text_added, written_form}
+use Rattle.scr_windows.specs.Calls.Adding.{cell_added, code_added, character_added, either_stayed, gone_to, line_begun, text_added, written_form}
 use Rattle.scr_windows.specs.Calls.Settings.{cursor_at}
 use Rattle.scr_windows.specs.Code.Steps.{Changes, RunIs}
 use Rattle.scr_windows.specs.Code.Stretches.{characters_first, form_of, forms_from, row_laid, cell_beside}
@@ -100,6 +101,10 @@ either_more : (a b c : Added) → either_stayed a (either_stayed b c) ≡ either
 either_more Done b c = refl
 either_more Stayed b c = refl
 
+either_done : (a : Added) → either_stayed a Done ≡ a
+either_done Done = refl
+either_done Stayed = refl
+
 -- a text is added after something else
 abbrev then_added : DeskView × Added → ℕ → List ℕ → DeskView × Added
 then_added first i rest = ((text_added first.0 i rest).0, either_stayed first.1 (text_added first.0 i rest).1)
@@ -107,7 +112,7 @@ then_added first i rest = ((text_added first.0 i rest).0, either_stayed first.1 
 text_split : (s rest : List ℕ) (d : DeskView) (i : ℕ) → text_added d i (s ++ rest) ≡ then_added (text_added d i s) i rest
 text_split [] rest d i = refl
 text_split (byte ∷ s) rest d i =
-    let first : DeskView × Added = byte_added d i byte no_attributes in
+    let first : DeskView × Added = code_added d i byte no_attributes in
     let more : DeskView × Added = text_added first.0 i s in
     let last : DeskView × Added = text_added more.0 i rest in
     let e : text_added first.0 i (s ++ rest) ≡ then_added more i rest = text_split s rest first.0 i in
@@ -118,14 +123,32 @@ text_split (byte ∷ s) rest d i =
     one ∙ two
 
 -- what is added so far, and what the rest of the text adds, is what the text adds
+pub added_part : (d new fn : DeskView) (i : ℕ) (all one : Added) (part rest whole text : List ℕ) → whole ≡ part ++ rest → ◌≡◌ {A = DeskView × Added} (new, one) (text_added d i part)
+    → (text_added d i whole).0 ≡ (text_added fn i text).0 → either_stayed all (text_added d i whole).1 ≡ (text_added fn i text).1
+    → ((text_added new i rest).0 ≡ (text_added fn i text).0) × (either_stayed (either_stayed all one) (text_added new i rest).1 ≡ (text_added fn i text).1)
+added_part d new fn i all one part rest whole text cut is desk answer =
+    let e : then_added (new, one) i rest ≡ text_added d i whole = ap (λ t. then_added t i rest) is ∙ sym (text_split part rest d i) ∙ ap (text_added d i) (sym cut) in
+    (ap (λ (t : DeskView × Added). t.0) e ∙ desk, sym (either_more all one (text_added new i rest).1) ∙ ap (λ (t : DeskView × Added). either_stayed all t.1) e ∙ answer)
+
+-- the same of a text that is read by places
 pub added_more : (d new fn : DeskView) (i at count : ℕ) (all one : Added) (text : List ℕ) → ◌≡◌ {A = DeskView × Added} (new, one) (text_added d i (take count (drop at text)))
     → (text_added d i (drop at text)).0 ≡ (text_added fn i text).0 → either_stayed all (text_added d i (drop at text)).1 ≡ (text_added fn i text).1
     → ((text_added new i (drop (at + count) text)).0 ≡ (text_added fn i text).0) × (either_stayed (either_stayed all one) (text_added new i (drop (at + count) text)).1 ≡ (text_added fn i text).1)
 added_more d new fn i at count all one text is desk answer =
-    let rest : List ℕ = drop (at + count) text in
-    let cut : take count (drop at text) ++ rest ≡ drop at text = ap (λ ys. take count (drop at text) ++ ys) (sym (drop-drop count at text)) ∙ take-append-drop count (drop at text) in
-    let e : then_added (new, one) i rest ≡ text_added d i (drop at text) = ap (λ t. then_added t i rest) is ∙ sym (text_split (take count (drop at text)) rest d i) ∙ ap (text_added d i) cut in
-    (ap (λ (t : DeskView × Added). t.0) e ∙ desk, sym (either_more all one (text_added new i rest).1) ∙ ap (λ (t : DeskView × Added). either_stayed all t.1) e ∙ answer)
+    let cut : drop at text ≡ take count (drop at text) ++ drop (at + count) text = sym (take-append-drop count (drop at text)) ∙ ap (λ ys. take count (drop at text) ++ ys) (drop-drop count at text) in
+    added_part d new fn i all one (take count (drop at text)) (drop (at + count) text) (drop at text) text cut is desk answer
+
+-- nothing is left of it
+pub text_done : (d fn : DeskView) (i : ℕ) (all : Added) (rest text : List ℕ) → rest ≡ [] → (text_added d i rest).0 ≡ (text_added fn i text).0 → either_stayed all (text_added d i rest).1 ≡ (text_added fn i text).1
+    → ◌≡◌ {A = DeskView × Added} (d, all) (text_added fn i text)
+text_done d fn i all rest text none desk answer =
+    let end : d ≡ (text_added fn i text).0 = ap (λ ys. (text_added d i ys).0) (sym none) ∙ desk in
+    let stayed : all ≡ (text_added fn i text).1 = sym (either_done all) ∙ ap (λ ys. either_stayed all (text_added d i ys).1) (sym none) ∙ answer in
+    (λ j. (end j, stayed j))
+
+-- a text of one code
+pub added_one : (d : DeskView) (i code : ℕ) → text_added d i (code ∷ []) ≡ code_added d i code no_attributes
+added_one d i code = let first : DeskView × Added = code_added d i code no_attributes in (λ j. (first.0, either_done first.1 j))
 
 -- ---- a surface that is filled twice, and lines that are marked twice
 
@@ -234,7 +257,7 @@ character_by d i byte w =
     cond (ltb (x + 1) w.frame.area.columns) (gone_to put i (y, x + 1)) (line_begun put i)
 
 character_is : (d : DeskView) (i byte : ℕ) → character_added d i byte no_attributes ≡ character_by d i byte (window_at d i)
-unfolding character_added
+unfolding character_added cell_added
 character_is d i byte = refl
 
 -- the desk with a character before the last column
@@ -259,17 +282,17 @@ character_put d i byte w here is =
         let put : DeskView = write d i y (y + 1) f in
         character_is d i byte ∙ ap (λ t. cond t (gone_to put i (y, x + 1)) (line_begun put i)) (below_is (x + 1) w.frame.area.columns room) ∙ (λ j. (written_desk d i (x + 1) f here j, Done))
 
-byte_is_character : (d : DeskView) (i byte : ℕ) → is_ascii byte ≡ true → byte_added d i byte no_attributes ≡ character_added d i byte no_attributes
-unfolding byte_added
-byte_is_character d i byte is = last _ _ _ _ _ _
+ascii_is_added : (d : DeskView) (i byte : ℕ) → is_ascii byte ≡ true → code_added d i byte no_attributes ≡ character_added d i byte no_attributes
+unfolding code_added
+ascii_is_added d i byte is = last _ _ _ _ _ _
   where
-    last : (a b c e f g : DeskView × Added) → cond (byte == 10) a (cond (byte == 9) b (cond (byte == 8) c (cond (byte == 13) e (cond (ltb byte 32 || byte == 127) f g)))) ≡ g
+    last : (a b c e f g : DeskView × Added) → cond (byte == 10) a (cond (byte == 9) b (cond (byte == 8) c (cond (byte == 13) e (cond (is_control byte) f g)))) ≡ g
     last a b c e f g = grind (arith, nat_tests, is)
 
 -- what the first character of a stretch, and each further one, leaves
 first_laid : SurfaceLaws → (d : DeskView) (i byte : ℕ) (value : ℕ → CellView) → i < length d.windows → is_ascii byte ≡ true → (window_at d i).state.cursor.1 + 1 < (window_at d i).frame.area.columns
     → value (window_at d i).state.cursor.1 ≡ written_form byte no_attributes (window_at d i).state
-    → ◌≡◌ {A = DeskView × Added} (byte_added d i byte no_attributes) (laid_desk d i ((window_at d i).state.cursor.1 + 1) value, Done)
+    → ◌≡◌ {A = DeskView × Added} (code_added d i byte no_attributes) (laid_desk d i ((window_at d i).state.cursor.1 + 1) value, Done)
 first_laid laws d i byte value here is room cell =
     let w : WindowView = window_at d i in
     let y : ℕ = w.state.cursor.0 in
@@ -277,7 +300,7 @@ first_laid laws d i byte value here is room cell =
     let s : SurfaceView = surface_at d w.frame.surface in
     let same : filled s w.frame.area (run_put y x (x + 1) (written_form byte no_attributes w.state) (inside_at s w.frame.area)) ≡ filled s w.frame.area (row_laid y x (x + 1) value (inside_at s w.frame.area))
     = laws.filled_same s w.frame.area _ _ (λ r c b k. alike y x r c (written_form byte no_attributes w.state) (inside_at s w.frame.area r c) cell) in
-    byte_is_character d i byte is ∙ character_put d i byte w here refl room
+    ascii_is_added d i byte is ∙ character_put d i byte w here refl room
     ∙ (λ j. (record d { surfaces = with_surface w.frame.surface (same j) d.surfaces; windows = slice_set d.windows i (moved w (x + 1)) }, Done))
   where
     alike : (y x r c : ℕ) (cell was : CellView) → value x ≡ cell → cond (r == y && leb x c && ltb c (x + 1)) cell was ≡ cond (r == y && leb x c && ltb c (x + 1)) (value c) was
@@ -285,7 +308,7 @@ first_laid laws d i byte value here is room cell =
 
 next_laid : SurfaceLaws → (d : DeskView) (i byte end : ℕ) (value : ℕ → CellView) → IsThere d i → is_ascii byte ≡ true → (window_at d i).state.cursor.1 ≤ end → end + 1 < (window_at d i).frame.area.columns
     → value end ≡ written_form byte no_attributes (window_at d i).state
-    → ◌≡◌ {A = DeskView × Added} (byte_added (laid_desk d i end value) i byte no_attributes) (laid_desk d i (end + 1) value, Done)
+    → ◌≡◌ {A = DeskView × Added} (code_added (laid_desk d i end value) i byte no_attributes) (laid_desk d i (end + 1) value, Done)
 next_laid laws d i byte end value h is from room cell =
     let w : WindowView = window_at d i in
     let y : ℕ = w.state.cursor.0 in
@@ -304,7 +327,7 @@ next_laid laws d i byte end value h is from room cell =
     ∙ ap (λ t. with_surface k t d.surfaces) (laid_more laws s area y x end value _ h.whole h.part from cell) in
     let windows : slice_set (slice_set d.windows i v) i (moved v (end + 1)) ≡ slice_set d.windows i (moved w (end + 1))
     = set-set d.windows i v (moved v (end + 1)) ∙ ap (λ marks. slice_set d.windows i (record (moved w (end + 1)) { touched = marks })) (marks_twice y (y + 1) w.touched) in
-    byte_is_character (laid_desk d i end value) i byte is ∙ character_put (laid_desk d i end value) i byte v here (get_or-set_same d.windows i v no_window h.here) room
+    ascii_is_added (laid_desk d i end value) i byte is ∙ character_put (laid_desk d i end value) i byte v here (get_or-set_same d.windows i v no_window h.here) room
     ∙ (λ j. (record d { surfaces = sheets j; windows = windows j }, Done))
 
 -- the characters that a text begins with, after some that were laid

@@ -68,6 +68,9 @@ pub enum WinFault {
     /// A number that no colour has.
     #[error("bad colour")]
     BadColour,
+    /// A `char` that is no character of one column.
+    #[error("not a character of one column")]
+    NotOneColumn,
 }
 
 impl From<AllocError> for WinFault {

@@ -1,9 +1,13 @@
 //! Laws of desks, each the contract of a function that does nothing. A caller cites a law by calling its function.
 //!
 //! They are stated in `specs/Laws.antt`.
+ghost use Rattle.std.specs.Prelude.{◌≡◌, true};
+ghost use Rattle.std.specs.List.{list_all};
+ghost use Rattle.scr_cells.specs.Characters.{is_character};
 ghost use Rattle.scr_windows.specs.Laws.{DeletingKeepsOthers, MovingChangesNoCell, ResizingKeepsOthers, SubwindowsShareCells, WindowsArePlaced, WritingStaysInside};
 ghost use Rattle.scr_windows.specs.Surfaces.SurfaceLaws.{SurfaceLaws};
 
+use crate::calls::{BOX, DOUBLE_BOX, ROUND_BOX};
 use scr_cells::{Cell, grid_laws};
 
 /// Deleting a window keeps every other window and its cells. X/Open Curses Issue 7, delwin().
@@ -45,3 +49,10 @@ pub fn surface_laws()
 {
     grid_laws::<Cell>();
 }
+
+/// What `BOX`, `DOUBLE_BOX` and `ROUND_BOX` are made of is characters, so that `Desk::border_of` refuses none of them.
+pub fn boxes_have_characters()
+    ensures single { list_all is_character BOX ≡ true }
+    ensures double { list_all is_character DOUBLE_BOX ≡ true }
+    ensures round { list_all is_character ROUND_BOX ≡ true }
+{}

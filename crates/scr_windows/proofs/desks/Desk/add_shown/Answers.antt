@@ -5,6 +5,6 @@ use Rattle.scr_windows.specs.Code.Canvases.{IsSheetOf}
 use Rattle.scr_windows.proofs.AddingLaws.{character_stays}
 use Rattle.scr_windows.proofs.desks.Desk.add_shown.Goals as goal
 
-pub add_character-second-requires-clause-sheet : goal.add_character-second-requires-clause-sheet
-add_character-second-requires-clause-sheet c =
-    subst (λ (d : DeskView × Added). IsSheetOf d.0 c.args.index c.args.sheet) (sym c.add_character-first.ensures.added) (character_stays _ c.args.index c.args.sheet _ _ c.requires.here c.requires.sheet)
+pub write_character-second-requires-clause-sheet : goal.write_character-second-requires-clause-sheet
+write_character-second-requires-clause-sheet c =
+    subst (λ (d : DeskView × Added). IsSheetOf d.0 c.args.index c.args.sheet) (sym c.write_character-first.ensures.added) (character_stays _ c.args.index c.args.sheet _ _ c.requires.here c.requires.sheet)

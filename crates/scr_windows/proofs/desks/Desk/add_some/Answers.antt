@@ -4,13 +4,13 @@ use Rattle.scr_windows.specs.declared.faults.Added.{Added}
 use Rattle.scr_windows.specs.DeskViews.{DeskView}
 use Rattle.scr_windows.specs.Code.Canvases.{IsSheetOf}
 use Rattle.scr_windows.specs.Calls.Adding.{text_added}
-use Rattle.scr_windows.proofs.AddingLaws.{byte_stays, text_stays}
+use Rattle.scr_windows.proofs.AddingLaws.{code_stays, text_stays}
 use Rattle.scr_windows.proofs.TextLaws.{part_begins, part_fits}
 use Rattle.scr_windows.proofs.desks.Desk.add_some.Goals as goal
 
 pub returns-then-room-lt2-clause-sheet : goal.returns-then-room-lt2-clause-sheet
 returns-then-room-lt2-clause-sheet c =
-    subst (λ (r : DeskView × Added). IsSheetOf r.0 c.args.index c.args.sheet) (sym c.add_at.ensures.added) (byte_stays _ c.args.index c.args.sheet _ _ c.requires.here c.requires.sheet)
+    subst (λ (r : DeskView × Added). IsSheetOf r.0 c.args.index c.args.sheet) (sym c.add_at.ensures.added) (code_stays _ c.args.index c.args.sheet _ _ c.requires.here c.requires.sheet)
 
 pub add_stretch-requires-clause-some : goal.add_stretch-requires-clause-some
 add_stretch-requires-clause-some c =

@@ -1,6 +1,6 @@
 use Rattle.std.proofs.Common.{◌≡◌, leb, take}
 use Rattle.std.specs.List.{list_any}
-use Rattle.scr_windows.proofs.calls.adding.is_any_above.Given as goal
+use Rattle.scr_windows.proofs.calls.texts.is_any_above.Given as goal
 
 -- whether any byte so far is 128 or more
 abbrev pub invariant-loop-byte : goal.invariant-loop-byte
