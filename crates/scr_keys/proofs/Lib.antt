@@ -4,4 +4,8 @@ pub mod FirstLaws
 pub mod KeyLaws
 pub mod MapLaws
 pub mod RuleLaws
+pub mod SequenceLaws
 pub mod TableLaws
+pub mod TypingLaws
+pub mod TypingRuleLaws
+pub mod WellFormedLaws

@@ -4,3 +4,5 @@ pub mod Laws
 pub mod Names
 pub mod Readers
 pub mod Tables
+pub mod Typing
+pub mod TypingLaws
