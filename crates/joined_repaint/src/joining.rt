@@ -20,7 +20,7 @@ use std::alloc::Global;
 /// row by row.
 ///
 /// - If the left neighbour of a place differs too and is seen with the same pen, the place is its
-///   byte alone.
+///   character alone.
 /// - The rest of a line is erased if that takes no more bytes than places differ there.
 /// - Operations that change nothing are left out.
 /// - There are no operations if no place differs and the cursor is where it is wanted.

@@ -3,6 +3,7 @@
 ghost use Rattle.std.specs.Prelude.{◌≡◌, ◌<◌, ◌&&◌, ◌||◌, not, leb};
 ghost use Rattle.std.specs.List.{range_with_len};
 ghost use Rattle.scr_cells.specs.CellViews.{blank_cell};
+ghost use Rattle.scr_cells.specs.Characters.{seen_character};
 ghost use Rattle.scr_cells.specs.Grids.{grid_at};
 ghost use Rattle.scr_cells.specs.LookViews.{blank};
 ghost use Rattle.scr_cells.specs.PenViews.{pen_eq};
@@ -11,7 +12,7 @@ ghost use Rattle.scr_plan.specs.Repaints.{blank_column, differing_from, differs,
 ghost use Rattle.scr_plan.specs.Scratch.{look_at};
 ghost use Rattle.joined_repaint.specs.Shown.{IsOf, known_of};
 
-use scr_cells::{Cell, Pen, Picture};
+use scr_cells::{Cell, Charset, Pen, Picture};
 use scr_term::{Op, Profile};
 use scr_terminal::Terminal;
 
@@ -23,15 +24,26 @@ fn cell_at(picture: &Picture, row: u32, column: u32) -> Cell
     picture.row(row)[column as usize]
 }
 
-// What is seen of the picture in a place: a byte, and the pen that it is written with.
-pub(crate) fn seen_at(profile: &Profile, picture: &Picture, row: u32, column: u32) -> (u8, Pen)
+// The character that is seen of a cell.
+#[tactic(auto, unfolding(scr_cells::specs::Characters::seen_character))]
+fn character_of(charset: Charset, cell: Cell) -> char
+    ensures { result ≡ seen_character charset cell.character }
+{
+    match charset {
+        Charset::Ascii => char::from(cell.byte()),
+        Charset::Utf8 => cell.character(),
+    }
+}
+
+// What is seen of the picture in a place: a character, and the pen that it is written with.
+pub(crate) fn seen_at(profile: &Profile, picture: &Picture, row: u32, column: u32) -> (char, Pen)
     requires place { IsPlace picture.now.rows picture.now.columns (row, column) }
-    ensures byte { result.0 ≡ (look_at profile.now picture.now (row, column)).character }
+    ensures character { result.0 ≡ (look_at profile.now picture.now (row, column)).character }
     ensures pen { result.1 ≡ (look_at profile.now picture.now (row, column)).pen }
 {
     let cell = cell_at(picture, row, column);
     let pen = picture.seen_pen(cell, profile.shows(), profile.colours());
-    (cell.byte(), pen)
+    (character_of(profile.charset(), cell), pen)
 }
 
 // Whether the terminal does not show what is seen of the picture in a place.
@@ -46,9 +58,9 @@ pub(crate) fn differs(
     requires place { IsPlace picture.now.rows picture.now.columns (row, column) }
     ensures { result ≡ differs profile.now picture.now (known_of terminal.now) (row, column) }
 {
-    let (byte, pen) = seen_at(profile, picture, row, column);
+    let (character, pen) = seen_at(profile, picture, row, column);
     let look = terminal.cell(row, column);
-    !(look.byte() == byte && look.pen() == pen)
+    !(look.character() == character && look.pen() == pen)
 }
 
 // Whether a place is seen blank.
@@ -56,8 +68,8 @@ fn is_blank(profile: &Profile, picture: &Picture, row: u32, column: u32) -> bool
     requires place { IsPlace picture.now.rows picture.now.columns (row, column) }
     ensures { result ≡ look_eq (look_at profile.now picture.now (row, column)) blank }
 {
-    let (byte, pen) = seen_at(profile, picture, row, column);
-    byte == b' ' && pen == Pen::plain()
+    let (character, pen) = seen_at(profile, picture, row, column);
+    character == ' ' && pen == Pen::plain()
 }
 
 // Whether a row is seen blank from a column on.

@@ -2,7 +2,7 @@
 ghost use Rattle.std.specs.Prelude.{◌≡◌, ◌++◌, ◌==◌, ◌∷◌, [], OnOk, Option, Some, map, filter, bit_and, if◌then◌else◌};
 ghost use Rattle.scr_cells.specs.Attributes.{attributes_of};
 ghost use Rattle.scr_cells.specs.PictureViews.{IsPlace};
-ghost use Rattle.scr_term.specs.declared.operations.operation.Op.TheVariants.{Enter, Move, Put};
+ghost use Rattle.scr_term.specs.declared.operations.operation.Op.TheVariants.{Enter, Move};
 ghost use Rattle.scr_plan.specs.Repaints.{begins_place, differing, joined_place};
 ghost use Rattle.scr_plan.specs.Scratch.{enter, goes, look_at, renders, resets, sets_background, sets_foreground};
 ghost use Rattle.joined_repaint.specs.Shown.{IsOf, known_of};
@@ -28,12 +28,12 @@ pub(crate) fn paint(
     ensures { OnOk result (ops.new.items
         ≡ ops.old.items ++ joined_place profile.now picture.now (known_of terminal.now) erased row column) }
 {
-    let (byte, _) = seen_at(profile, picture, row, column);
+    let (character, _) = seen_at(profile, picture, row, column);
     let last = match erased {
-        None => Op::Put(byte),
+        None => Op::of(character),
         Some(first) if first == column => Op::EraseLine,
         Some(first) if first < column => return Ok(()),
-        Some(_) => Op::Put(byte),
+        Some(_) => Op::of(character),
     };
     begin(profile, terminal, picture, row, column, ops)?;
     ops.push(last)?;

@@ -3,13 +3,13 @@ use Rattle.std.proofs.Common.{◌≡◌, ℕ, ◌+◌, ◌<◌, ◌≤◌, Bool,
 use Rattle.std.specs.List.{flat_map}
 use Rattle.std.proofs.lemmas.List.{append-nil}
 use Rattle.std.proofs.lemmas.List.Elements.{recursion_from_All}
+use Rattle.scr_term.specs.Operations.Texts.{put_of}
 use Rattle.scr_cells.specs.CellViews.{IsCell, blank_cell}
 use Rattle.scr_cells.specs.Grids.{grid_at, grid_with}
 use Rattle.scr_cells.specs.LookViews.{LookView}
 use Rattle.scr_cells.specs.PenViews.{pen_eq}
 use Rattle.scr_cells.specs.PictureViews.{PictureView, IsPicture}
 use Rattle.scr_term.specs.declared.operations.operation.Op.{Op}
-use Rattle.scr_term.specs.declared.operations.operation.Op.TheVariants.{Put}
 use Rattle.scr_term.specs.declared.operations.operation.Spot.{Spot}
 use Rattle.scr_term.specs.declared.operations.operation.Spot.TheVariants.{At, Margin}
 use Rattle.scr_term.specs.Operations.Laws.{ProfilesHave, RunLaws}
@@ -18,7 +18,7 @@ use Rattle.scr_term.specs.Operations.States.{TerminalState, IsState, spot_after,
 use Rattle.scr_term.specs.Operations.Steps.{act, runs}
 use Rattle.scr_plan.proofs.RememberedPlanLaws.{run_before}
 use Rattle.scr_plan.proofs.PartLaws.{part_more}
-use Rattle.scr_plan.proofs.PlaceLaws.{cell_of, one_run, stand_in_had}
+use Rattle.scr_plan.proofs.PlaceLaws.{cell_of, one_run, seen_had}
 use Rattle.scr_plan.proofs.PlainLaws.{both, pen_same}
 use Rattle.scr_plan.specs.Code.Painters.{part_places}
 use Rattle.scr_memory.specs.Memories.{MemoryView}
@@ -39,7 +39,7 @@ then_same laws profile old other xs ys more others first second = grind arith
 put_is_place : ProfilesHave → PlaceIsPainted → (profile : ProfileView) → IsProfile profile → (picture : PictureView) → IsPicture picture
     → (r c : ℕ) → r < profile.rows → suc c < profile.columns → (old : TerminalState) → IsState (abilities profile) old
     → old.spot ≡ spot_after profile.columns r c → old.pen ≡ (look_at profile picture (r, suc c)).pen
-    → runs profile old (Put (look_at profile picture (r, suc c)).character ∷ []) ≡ runs profile old (paints_place profile picture (r, suc c))
+    → runs profile old (put_of (look_at profile picture (r, suc c)).character ∷ []) ≡ runs profile old (paints_place profile picture (r, suc c))
 put_is_place have place_law profile p picture k r c high wide old s spot pen =
     let look : LookView = look_at profile picture (r, suc c) in
     let is : IsCell (grid_at blank_cell picture.lines r (suc c)) = cell_of picture.lines r (suc c) (recursion_from_All (All IsCell) picture.lines k.cells) in
@@ -47,10 +47,10 @@ put_is_place have place_law profile p picture k r c high wide old s spot pen =
     let more : nat_lt (c + 1) profile.columns ≡ true = grind (arith, wide) in
     let there : old.spot ≡ At r (suc c) = spot ∙ ap (λ b. if b then At r (c + 1) else Margin r) more ∙ ap (At r) next in
     let new : TerminalState = record { grid = grid_with old.grid r (suc c) look; spot = spot_after profile.columns r (suc c); pen = look.pen } in
-    let acts : act profile old (Put look.character) ≡ Some new =
-    ap (written_at profile.columns old look.character) there
+    let acts : act profile old (put_of look.character) ≡ Some new =
+    (have profile p).put_acts old look.character ∙ ap (written_at profile.columns old look.character) there
     ∙ ap (λ pen. Some (record { grid = grid_with old.grid r (suc c) (record { character = look.character; pen = pen }); spot = spot_after profile.columns r (suc c); pen = pen })) pen in
-    one_run profile old new (Put look.character) (stand_in_had profile (have profile p) _ is.character) acts ∙ sym (place_law profile p picture k (r, suc c) (high, wide) old s)
+    one_run profile old new (put_of look.character) (seen_had profile (have profile p) _ is.character) acts ∙ sym (place_law profile p picture k (r, suc c) (high, wide) old s)
 
 -- ---- the places of a row
 
@@ -88,7 +88,7 @@ one_same laws have place_law profile p picture k memory r (suc m) high wide old 
     look = look_at profile picture (r, suc m)
 
     by : (b : Bool) → joins_left profile picture memory r (suc m) ≡ b
-        → runs profile next ((if b then [] else goes profile (r, suc m) ++ renders look.pen) ++ Put look.character ∷ []) ≡ runs profile next (paints_place profile picture (r, suc m))
+        → runs profile next ((if b then [] else goes profile (r, suc m) ++ renders look.pen) ++ put_of look.character ∷ []) ≡ runs profile next (paints_place profile picture (r, suc m))
     by false e = refl
     by true e =
         let parts = both (differs profile picture memory (r, m)) (pen_eq (look_at profile picture (r, m)).pen look.pen) e in

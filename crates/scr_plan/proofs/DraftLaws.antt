@@ -1,5 +1,5 @@
 -- The short plan: what each stroke does to the terminal.
-use Rattle.std.proofs.Common.{◌≡◌, ℕ, ◌+◌, ◌-◌, ◌<◌, ◌≤◌, ◌&&◌, not, nat_le, Bool, true, false, All, refl, sym, ◌∙◌, ap, arith, List, [], ◌∷◌, ◌++◌, append_assoc, map, Option, Some, None, option_and_then, if◌then◌else◌}
+use Rattle.std.proofs.Common.{◌≡◌, ℕ, ◌+◌, ◌-◌, ◌<◌, ◌≤◌, ◌&&◌, not, nat_le, Bool, true, false, All, refl, sym, ◌∙◌, ap, arith, List, [], ◌∷◌, ◌++◌, append_assoc, map, Option, Some, None, option_and_then, if◌then◌else◌, suc, length, zero, subst}
 use Rattle.std.proofs.lemmas.List.{append-nil}
 use Rattle.std.proofs.lemmas.List.Elements.{recursion_from_All}
 use Rattle.std.proofs.lemmas.List.Folds.{list_all-append}
@@ -10,7 +10,7 @@ use Rattle.scr_cells.specs.LookViews.{LookView, blank}
 use Rattle.scr_cells.specs.PenViews.{PenView, is_plain_pen, plain_pen}
 use Rattle.scr_cells.specs.PictureViews.{PictureView, IsPicture}
 use Rattle.scr_term.specs.declared.operations.operation.Op.{Op}
-use Rattle.scr_term.specs.declared.operations.operation.Op.TheVariants.{EraseChars, EraseLine, Move, Put, Reset}
+use Rattle.scr_term.specs.declared.operations.operation.Op.TheVariants.{EraseChars, EraseLine, Move, Reset}
 use Rattle.scr_term.specs.declared.operations.operation.Spot.{Spot}
 use Rattle.scr_term.specs.declared.operations.operation.Spot.TheVariants.{At}
 use Rattle.scr_term.specs.Operations.Laws.{ProfilesHave, RunLaws}
@@ -18,14 +18,14 @@ use Rattle.scr_terminal.specs.Leading.{GoesTo, TurnsTo}
 use Rattle.scr_term.specs.Operations.Profiles.{ProfileView, IsProfile, abilities}
 use Rattle.scr_term.specs.Operations.States.{TerminalState, IsState, characters_erased, erased, from_place, spot_after, written_at}
 use Rattle.scr_term.specs.Operations.Steps.{act, runs, step}
-use Rattle.scr_term.specs.Operations.Texts.{has}
+use Rattle.scr_term.specs.Operations.Texts.{has, put_of, bytes_of}
 use Rattle.scr_plan.proofs.StillLaws.{still_rows}
 use Rattle.scr_plan.proofs.JoinedPriceLaws.{price_is, put_price}
-use Rattle.scr_plan.proofs.PlaceLaws.{at_place, begun_run, cell_of, erases_line, goes_by, one_run, plain, stand_in_had, then_runs}
+use Rattle.scr_plan.proofs.PlaceLaws.{at_place, begun_run, cell_of, erases_line, goes_by, one_run, plain, then_runs, seen_had, put_by}
 use Rattle.scr_plan.proofs.PartLaws.{is_here}
 use Rattle.scr_plan.proofs.PlainLaws.{look_same}
 use Rattle.scr_plan.proofs.ScratchLaws.{covered, own_look, place_changed}
-use Rattle.scr_plan.specs.Code.Drafts.{Aim, Covers, IsAdded, IsAimed, IsPut, Keeps, KeepsAll, KeepsEvery, aim_of, behind_them, in_part, is_calm, is_in, without}
+use Rattle.scr_plan.specs.Code.Drafts.{Aim, Covers, IsAdded, IsAimed, IsPut, Keeps, KeepsAll, KeepsEvery, aim_of, behind_them, in_part, is_calm, is_in, without, place_bytes, run_bytes}
 use Rattle.scr_memory.specs.Memories.{moves_rows}
 use Rattle.scr_plan.specs.Code.Joinings.{counted_up}
 use Rattle.scr_plan.specs.Code.Painters.{painter_begins, painter_goes, painter_look, painter_of}
@@ -170,25 +170,42 @@ jump_keeps laws have profile p picture fits painter who place high wide pen is o
     (ap (λ ops. runs profile right.now ops) ((λ i. painter_begins (who i) place (is i)) ∙ append-nil (goes profile place)) ∙ run) refl (sym is) right.shows
 
 -- a character where the cursor is
+-- the bytes of no place, of one more, and of one
+no_bytes : (profile : ProfileView) (picture : PictureView) (row column : ℕ) → run_bytes profile picture row column (column - column) ≡ 0
+no_bytes profile picture row column = let none : column - column ≡ 0 = omega arith in subst (λ n. run_bytes profile picture row column n ≡ 0) (sym none) refl
+
+pub more_bytes : (profile : ProfileView) (picture : PictureView) (row column place : ℕ) → column ≤ place → run_bytes profile picture row column (place + 1 - column) ≡ run_bytes profile picture row column (place - column) + place_bytes profile picture row place
+more_bytes profile picture row column place low =
+    let count : place + 1 - column ≡ suc (place - column) = omega (arith, low) in
+    let there : column + (place - column) ≡ place = omega (arith, low) in
+    ap (run_bytes profile picture row column) count ∙ ap (λ c. run_bytes profile picture row column (place - column) + place_bytes profile picture row c) there
+
+pub one_bytes : (profile : ProfileView) (picture : PictureView) (row column : ℕ) → run_bytes profile picture row column (column + 1 - column) ≡ place_bytes profile picture row column
+one_bytes profile picture row column = omega (arith, more_bytes profile picture row column column (omega arith), no_bytes profile picture row column)
+
+-- what writes a character moves no row
+put_is_calm : (code : ℕ) → is_calm (put_of code ∷ []) ≡ true
+put_is_calm code = put_by (λ op. is_calm (op ∷ []) ≡ true) code refl refl
+
+in_one : (row column r c : ℕ) → in_part row column (column + 1) (r, c) ≡ true → is_here r c (row, column) ≡ true
+in_one row column r c inside = grind arith
+
 pub put_covers : RunLaws → ProfilesHave → GridLaws LookView → (profile : ProfileView) → IsProfile profile → (picture : PictureView) → IsPicture picture → Fits profile picture → (painter : Painter) → painter ≡ painter_of profile → (row column : ℕ) → row < picture.rows → column < picture.columns
-    → (byte : ℕ) (old new : Draft) (spot : Spot) → old.spot ≡ At row column → old.pen ≡ (painter_look painter picture (row, column)).pen → byte ≡ (painter_look painter picture (row, column)).character → spot ≡ spot_after profile.columns row column
-    → IsAdded profile old new (Put byte ∷ []) spot old.pen → Covers profile picture (in_part row column (column + 1)) old new
-put_covers laws have grids profile p picture k fits painter who row column high wide byte old new spot here pen is behind added waits paid first start right =
+    → (code : ℕ) (old new : Draft) (spot : Spot) → old.spot ≡ At row column → old.pen ≡ (painter_look painter picture (row, column)).pen → code ≡ (painter_look painter picture (row, column)).character → spot ≡ spot_after profile.columns row column
+    → IsAdded profile old new (put_of code ∷ []) spot old.pen → Covers profile picture (in_part row column (column + 1)) old new
+put_covers laws have grids profile p picture k fits painter who row column high wide code old new spot here pen is behind added waits paid first start right =
     let look : LookView = look_at profile picture (row, column) in
     let cell : IsCell (grid_at blank_cell picture.lines row column) = cell_of picture.lines row column (recursion_from_All (All IsCell) picture.lines k.cells) in
     let now : TerminalState = right.now in
-    let shown : LookView = record { character = byte; pen = now.pen } in
+    let shown : LookView = record { character = code; pen = now.pen } in
     let same : shown ≡ look = (λ i. record { character = is i; pen = (right.pen ∙ pen) i }) ∙ ap (λ painter. painter_look painter picture (row, column)) who in
     let next : TerminalState = record { grid = grid_with now.grid row column shown; spot = spot_after profile.columns row column; pen = now.pen } in
-    let had : has profile (Put byte) ≡ true = ap (λ look. has profile (Put look.character)) same ∙ stand_in_had profile (have profile p) _ cell.character in
-    let run : runs profile now (Put byte ∷ []) ≡ Some next = one_run profile now next (Put byte) had (ap (written_at profile.columns now byte) (right.spot ∙ here)) in
-    drawn laws profile p (aim_of profile picture) paid first start (without (in_part row column (column + 1)) waits) old new (Put byte ∷ []) refl spot old.pen added right next run (sym behind) right.pen
+    let had : has profile (put_of code) ≡ true = ap (λ look. has profile (put_of look.character)) same ∙ seen_had profile (have profile p) _ cell.character in
+    let run : runs profile now (put_of code ∷ []) ≡ Some next = one_run profile now next (put_of code) had ((have profile p).put_acts now code ∙ ap (written_at profile.columns now code) (right.spot ∙ here)) in
+    drawn laws profile p (aim_of profile picture) paid first start (without (in_part row column (column + 1)) waits) old new (put_of code ∷ []) (put_is_calm code) spot old.pen added right next run (sym behind) right.pen
     (λ r c up left e.
     place_changed grids profile.rows profile.columns now.grid right.state.whole (row, column) (omega (arith, high, fits.rows), omega (arith, wide, fits.columns)) shown r c (omega (arith, up, fits.rows)) (omega (arith, left, fits.columns))
     ∙ covered (is_here r c (row, column)) (waits (r, c)) (in_part row column (column + 1) (r, c)) shown _ _ e (right.shows r c up left) (in_one row column r c) (λ at. same ∙ own_look profile picture (row, column) r c at))
-  where
-    in_one : (row column r c : ℕ) → in_part row column (column + 1) (r, c) ≡ true → is_here r c (row, column) ≡ true
-    in_one row column r c inside = grind arith
 
 -- ---- places are painted one after another
 
@@ -207,15 +224,15 @@ put_none profile picture fits row column wide old now here items keeps bytes spo
   spot = spot;
   pen = pen;
   covers = λ waits paid first start right.
-      let none : Draft = behind_them profile.columns row column column old now in
+      let none : Draft = behind_them profile picture row column column old now in
       covers_none profile picture row column none waits paid first start
-      (aimed_alike profile (aim_of profile picture) paid first start waits old none items refl (omega (arith, right.bytes)) (grind (arith, wide, fits.columns)) refl right);
+      (aimed_alike profile (aim_of profile picture) paid first start waits old none items refl (omega (arith, right.bytes, no_bytes profile picture row column)) (grind (arith, wide, fits.columns)) refl right);
 }
 
 pub put_more : RunLaws → ProfilesHave → GridLaws LookView → (profile : ProfileView) → IsProfile profile → (picture : PictureView) → IsPicture picture → Fits profile picture → (painter : Painter) → painter ≡ painter_of profile → (row column place : ℕ) → row < picture.rows → column ≤ place → place < picture.columns
-    → (byte : ℕ) (old now new : Draft) → old.pen ≡ (painter_look painter picture (row, place)).pen → byte ≡ (painter_look painter picture (row, place)).character → new.ops.items ≡ now.ops.items ++ Put byte ∷ [] → new.keeps ≡ now.keeps → new.bytes ≡ now.bytes → new.spot ≡ now.spot → new.pen ≡ now.pen
+    → (code : ℕ) (old now new : Draft) → old.pen ≡ (painter_look painter picture (row, place)).pen → code ≡ (painter_look painter picture (row, place)).character → new.ops.items ≡ now.ops.items ++ put_of code ∷ [] → new.keeps ≡ now.keeps → new.bytes ≡ now.bytes → new.spot ≡ now.spot → new.pen ≡ now.pen
     → IsPut profile picture row column place old now → IsPut profile picture row column (place + 1) old new
-put_more laws have grids profile p picture k fits painter who row column place high low wide byte old now new pen is added keeps bytes spot same_pen put = record {
+put_more laws have grids profile p picture k fits painter who row column place high low wide code old now new pen is added keeps bytes spot same_pen put = record {
   keeps = keeps ∙ put.keeps;
   bytes = bytes ∙ put.bytes;
   spot = spot ∙ put.spot;
@@ -223,30 +240,33 @@ put_more laws have grids profile p picture k fits painter who row column place h
   covers = λ waits paid first start right.
       let kept : mid.keeps ≡ true = right.keeps in
       covers_joined profile picture row column place (place + 1) old mid next low (omega arith) put.covers
-      (put_covers laws have grids profile p picture k fits painter who row place high wide byte mid next (spot_after profile.columns row place) here pen is refl (record {
+      (put_covers laws have grids profile p picture k fits painter who row place high wide code mid next (spot_after profile.columns row place) here pen is refl (record {
         keeps = refl;
         ops = λ _. added;
         left = λ dropped. (cc);
-        bytes = λ had. omega (arith, low, put_price profile byte);
+        bytes = λ had. omega (arith, more_bytes profile picture row column place low, put_price profile code, here_bytes);
         spot_is = refl;
         pen_is = refl;
       })) waits paid first start right;
 }
   where
     mid : Draft
-    mid = behind_them profile.columns row column place old now
+    mid = behind_them profile picture row column place old now
 
     next : Draft
-    next = behind_them profile.columns row column (place + 1) old new
+    next = behind_them profile picture row column (place + 1) old new
+
+    here_bytes : length (bytes_of profile (put_of code)) ≡ place_bytes profile picture row place
+    here_bytes = ap (λ n. length (bytes_of profile (put_of n))) (is ∙ ap (λ painter. (painter_look painter picture (row, place)).character) who)
 
     here : mid.spot ≡ At row place
     here = grind (arith, wide, fits.columns)
 
 -- they are counted
-pub put_counted : (profile : ProfileView) (picture : PictureView) (row column end : ℕ) → column < end → (old now new : Draft) → new.ops ≡ now.ops → new.keeps ≡ now.keeps → new.bytes ≡ counted_up (old.bytes + (end - column)) → new.spot ≡ spot_after profile.columns row (end - 1) → new.pen ≡ now.pen
+pub put_counted : (profile : ProfileView) (picture : PictureView) (row column end : ℕ) → column < end → (old now new : Draft) → new.ops ≡ now.ops → new.keeps ≡ now.keeps → new.bytes ≡ counted_up (old.bytes + run_bytes profile picture row column (end - column)) → new.spot ≡ spot_after profile.columns row (end - 1) → new.pen ≡ now.pen
     → IsPut profile picture row column end old now → Covers profile picture (in_part row column end) old new
 put_counted profile picture row column end more old now new ops keeps bytes spot pen put waits paid first start right =
-    aimed_alike profile (aim_of profile picture) paid first start (without (in_part row column end) waits) (behind_them profile.columns row column end old now) new (ap (λ ops. ops.items) ops) (keeps ∙ put.keeps) bytes (grind arith) (pen ∙ put.pen)
+    aimed_alike profile (aim_of profile picture) paid first start (without (in_part row column end) waits) (behind_them profile picture row column end old now) new (ap (λ ops. ops.items) ops) (keeps ∙ put.keeps) bytes (grind arith) (pen ∙ put.pen)
     (put.covers waits paid first start right)
 
 -- nothing is promised of a draft that is only counted

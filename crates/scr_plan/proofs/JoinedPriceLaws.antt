@@ -4,13 +4,15 @@ use Rattle.std.specs.List.{flat_map, range_with_len}
 use Rattle.std.proofs.lemmas.List.{append-nil, length-append}
 use Rattle.std.proofs.lemmas.List.Concat.{flat_map-append}
 use Rattle.std.proofs.lemmas.List.Elements.{filter-append}
+use Rattle.scr_cells.specs.CellViews.{blank_cell}
+use Rattle.scr_cells.specs.Grids.{grid_at}
 use Rattle.scr_cells.specs.PictureViews.{PictureView}
 use Rattle.scr_term.specs.declared.operations.operation.Op.{Op}
 use Rattle.scr_term.specs.declared.operations.operation.Op.TheVariants.{EraseLine, Put}
 use Rattle.scr_term.specs.Operations.Laws.{RunLaws}
 use Rattle.scr_term.specs.Operations.Profiles.{ProfileView}
 use Rattle.scr_term.specs.Operations.States.{TerminalState, blank_state}
-use Rattle.scr_term.specs.Operations.Texts.{all_bytes, bytes_of}
+use Rattle.scr_term.specs.Operations.Texts.{all_bytes, bytes_of, put_of}
 use Rattle.scr_plan.proofs.JoinedLaws.{IsErasable, erasable, row_erased, row_unerased}
 use Rattle.scr_plan.proofs.PartLaws.{part_joined, row_more}
 use Rattle.scr_plan.specs.Code.Joinings.{joined_at}
@@ -67,10 +69,16 @@ price profile ops = length (all_bytes profile ops)
 pub price_is : RunLaws → (profile : ProfileView) → IsMeasure (price profile)
 price_is laws profile = grind (arith, length-append)
 
--- a character is one byte
-pub put_price : (profile : ProfileView) (byte : ℕ) → price profile (Put byte ∷ []) ≡ 1
+pub put_byte_price : (profile : ProfileView) (byte : ℕ) → price profile (Put byte ∷ []) ≡ 1
 unfolding bytes_of
-put_price profile byte = refl
+put_byte_price profile byte = refl
+
+pub put_price : (profile : ProfileView) (code : ℕ) → price profile (put_of code ∷ []) ≡ length (bytes_of profile (put_of code))
+put_price profile code = ap length (append-nil (bytes_of profile (put_of code)))
+
+-- what is seen in a place is one byte at least
+look_price : RunLaws → (profile : ProfileView) (picture : PictureView) (place : ℕ × ℕ) → 1 ≤ price profile (put_of (look_at profile picture place).character ∷ [])
+look_price laws profile picture place = omega (arith, put_price profile (look_at profile picture place).character, laws.some profile (grid_at blank_cell picture.lines place.0 place.1).character)
 
 erase_price : (profile : ProfileView) → price profile (EraseLine ∷ []) ≡ length (bytes_of profile EraseLine)
 erase_price profile = ap length (append-nil (bytes_of profile EraseLine))
@@ -78,7 +86,7 @@ erase_price profile = ap length (append-nil (bytes_of profile EraseLine))
 -- each place has a byte at least
 each_some : RunLaws → (profile : ProfileView) (picture : PictureView) (xs : List (ℕ × ℕ)) → length xs ≤ price profile (flat_map (paints_place profile picture) xs)
 each_some laws profile picture [] = omega arith
-each_some laws profile picture (x ∷ xs) = omega (arith, each_some laws profile picture xs, (price_is laws profile).joined, put_price profile (look_at profile picture x).character)
+each_some laws profile picture (x ∷ xs) = omega (arith, each_some laws profile picture xs, (price_is laws profile).joined, look_price laws profile picture x)
 
 -- how many places of a part differ, and how many from a column on
 count_part : (d : ℕ × ℕ → Bool) (r e a n : ℕ) → e ≤ a → length (filter (λ c. leb e c && d (r, c)) (range_with_len a n)) ≡ length (filter d (part_places a n r))
@@ -143,7 +151,7 @@ row_less laws profile picture memory r = by (erased_column profile picture memor
         let few : length (bytes_of profile EraseLine) ≤ suc (length behind) =
         subst (λ n. length (bytes_of profile EraseLine) ≤ n) (count_from profile picture memory r e (omega (arith, can.inside)) ∙ ap (λ k. length (filter d (part_places e k r))) from ∙ ap length there) (worth_it profile picture memory r e at) in
         rw (row_erased profile picture memory r e at can.inside can.differs_there, cut)
-        (omega (arith, few, erase_price profile, put_price profile (look_at profile picture (r, e)).character, each_some laws profile picture behind, fewer first, begins_less (price profile) m profile picture memory r e, m.joined))
+        (omega (arith, few, erase_price profile, look_price laws profile picture (r, e), each_some laws profile picture behind, fewer first, begins_less (price profile) m profile picture memory r e, m.joined))
 
 rows_less : RunLaws → (profile : ProfileView) (picture : PictureView) (memory : MemoryView) (n : ℕ)
     → price profile (flat_map (joined_at profile picture memory) (filter (differs profile picture memory) (places n picture.columns)))

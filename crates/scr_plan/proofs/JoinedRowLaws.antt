@@ -1,9 +1,12 @@
 -- The joined repaint, row by row.
-use Rattle.std.proofs.Common.{◌≡◌, ℕ, ◌+◌, ◌-◌, ◌<◌, ◌≤◌, ◌⊎◌, inl, inr, not, Bool, true, false, refl, sym, ◌∙◌, ap, subst, arith, append_assoc, get_or, nat_lt, Result, OnOk, List, [], ◌∷◌, ◌++◌, filter, Option, Some, None, zero, suc, if◌then◌else◌}
+use Rattle.std.proofs.Common.{◌≡◌, ℕ, ◌+◌, ◌-◌, ◌<◌, ◌≤◌, ◌⊎◌, inl, inr, not, Bool, true, false, refl, sym, ◌∙◌, ap, subst, arith, append_assoc, get_or, nat_lt, Result, OnOk, List, [], ◌∷◌, ◌++◌, filter, Option, Some, None, zero, suc, if◌then◌else◌, length}
 use Rattle.std.specs.List.{All, flat_map}
 use Rattle.std.proofs.lemmas.Bool.Decides.{nat_tests}
 use Rattle.std.proofs.lemmas.List.{append-nil}
 use Rattle.std.proofs.lemmas.List.Elements.{recursion_from_All, filter-append}
+use Rattle.scr_term.specs.Operations.Texts.{bytes_of, has, put_of}
+use Rattle.scr_plan.proofs.DraftLaws.{more_bytes, one_bytes}
+use Rattle.scr_plan.specs.Code.Drafts.{place_bytes, run_bytes}
 use Rattle.scr_cells.specs.CellViews.{CellView, IsCell, blank_cell}
 use Rattle.scr_cells.specs.Characters.{IsCharacter}
 use Rattle.scr_cells.specs.Grids.{grid_at, grid_row}
@@ -22,7 +25,7 @@ use Rattle.scr_plan.proofs.JoinLaws.{differs_same, joins_same, known_row, painte
 use Rattle.scr_plan.proofs.JoinedLaws.{IsErasable, erasable, joined_assoc, row_erased, row_unerased}
 use Rattle.scr_plan.proofs.JoiningLaws.{counts_less, goes_on, nothing_goes, put_goes}
 use Rattle.scr_plan.proofs.PartLaws.{is_among, none_in_places, none_in_part, pen_refl, part_joined, row_in_part, row_known, row_more, same_place}
-use Rattle.scr_plan.proofs.PlaceLaws.{cell_of, stand_in_had}
+use Rattle.scr_plan.proofs.PlaceLaws.{cell_of, seen_had}
 use Rattle.scr_plan.proofs.PlainLaws.{among_differing}
 use Rattle.scr_plan.specs.Code.Joinings.{Continues, CountsAtMost, ShowsRow, counted_up, joined_at}
 use Rattle.scr_plan.specs.Code.Painters.{is_that_pen, painter_begins, painter_look, painter_of, painter_writes, part_places, pen_before, row_differs, row_paints}
@@ -179,37 +182,39 @@ on_ok r P Q f h = grind arith
 -- ---- places that differ with one pen, counted
 
 -- the characters of a row from one column up to another are counted
-abbrev pub behind_each : ℕ → ℕ → ℕ → ℕ → Draft → Draft
-behind_each columns row column next old = record old { bytes = counted_up (old.bytes + (next - column)); spot = spot_after columns row (next - 1) }
+abbrev pub behind_each : ProfileView → PictureView → ℕ → ℕ → ℕ → Draft → Draft
+behind_each profile picture row column next old = record old { bytes = counted_up (old.bytes + run_bytes profile picture row column (next - column)); spot = spot_after profile.columns row (next - 1) }
 
-one_counted : RunLaws → ProfilesHave → (profile : ProfileView) → IsProfile profile → (painter : Painter) (picture : PictureView) → IsPicture picture → (before : Option (List LookView)) (row column : ℕ) → row_differs painter picture before (row, column) ≡ true
+one_counted : RunLaws → ProfilesHave → (profile : ProfileView) → IsProfile profile → (painter : Painter) → painter ≡ painter_of profile → (picture : PictureView) → IsPicture picture → (before : Option (List LookView)) (row column : ℕ) → row_differs painter picture before (row, column) ≡ true
     → (old mid new : Draft) (left : Option PenView) → left ≡ pen_before painter picture before row column
     → Continues profile old mid (if is_that_pen left (painter_look painter picture (row, column)).pen then [] else painter_begins painter (row, column) (painter_look painter picture (row, column)).pen)
-    → mid.spot ≡ At row column → mid.keeps ≡ false → new.ops.items ≡ mid.ops.items → new.bytes ≡ counted_up (mid.bytes + 1) → new.keeps ≡ mid.keeps → new.spot ≡ spot_after profile.columns row column → new.pen ≡ mid.pen
+    → mid.spot ≡ At row column → mid.keeps ≡ false → new.ops.items ≡ mid.ops.items → new.bytes ≡ counted_up (mid.bytes + place_bytes profile picture row column) → new.keeps ≡ mid.keeps → new.spot ≡ spot_after profile.columns row column → new.pen ≡ mid.pen
     → Continues profile old new (flat_map (row_paints painter picture before) (filter (row_differs painter picture before) (part_places column (column + 1 - column) row)))
-one_counted laws have profile p painter picture k before row column unlike old mid new left is_left begun here counts same paid keeps behind pen =
+one_counted laws have profile p painter who picture k before row column unlike old mid new left is_left begun here counts same paid keeps behind pen =
     let look : LookView = painter_look painter picture (row, column) in
+    let same_look : look ≡ look_at profile picture (row, column) = ap (λ painter. painter_look painter picture (row, column)) who in
+    let had : has profile (put_of look.character) ≡ true = ap (λ look. has profile (put_of look.character)) same_look ∙ seen_had profile (have profile p) _ (character_is picture k row column) in
     painted_goes profile painter picture before row column old new left look unlike is_left refl
     (goes_on profile old mid new _ _ begun
-    (put_goes laws profile p look.character (stand_in_had profile (have profile p) _ (character_is picture k row column)) mid new row column here (λ kept. (cc)) (λ dropped. same) paid keeps behind pen))
+    (put_goes laws profile p (have profile p) look.character had mid new row column here (λ kept. (cc)) (λ dropped. same) (paid ∙ ap (λ look. counted_up (mid.bytes + length (bytes_of profile (put_of look.character)))) (sym same_look)) keeps behind pen))
 
 Counts : ProfileView → Painter → PictureView → Option (List LookView) → ℕ → ℕ → ℕ → Draft → Draft → Type 0
 Counts profile painter picture before row column next old mid =
-    Continues profile old (behind_each profile.columns row column next mid) (flat_map (row_paints painter picture before) (filter (row_differs painter picture before) (part_places column (next - column) row)))
+    Continues profile old (behind_each profile picture row column next mid) (flat_map (row_paints painter picture before) (filter (row_differs painter picture before) (part_places column (next - column) row)))
 
-each_goes : RunLaws → ProfilesHave → (profile : ProfileView) → IsProfile profile → (painter : Painter) (picture : PictureView) → IsPicture picture → profile.columns ≡ picture.columns → (before : Option (List LookView)) (row column : ℕ) (old mid : Draft) (left : Option PenView)
+each_goes : RunLaws → ProfilesHave → (profile : ProfileView) → IsProfile profile → (painter : Painter) → painter ≡ painter_of profile → (picture : PictureView) → IsPicture picture → profile.columns ≡ picture.columns → (before : Option (List LookView)) (row column : ℕ) (old mid : Draft) (left : Option PenView)
     → left ≡ pen_before painter picture before row column → mid.keeps ≡ false → mid.spot ≡ At row column
     → Continues profile old mid (if is_that_pen left (painter_look painter picture (row, column)).pen then [] else painter_begins painter (row, column) (painter_look painter picture (row, column)).pen)
     → (n : ℕ) → column + suc n ≤ picture.columns → ((c : ℕ) → column ≤ c → c < column + suc n → row_differs painter picture before (row, c) ≡ true)
     → ((c : ℕ) → column ≤ c → c < column + suc n → (painter_look painter picture (row, c)).pen ≡ (painter_look painter picture (row, column)).pen)
     → Counts profile painter picture before row column (column + suc n) old mid
 unfolding Counts
-each_goes laws have profile p painter picture k columns before row column old mid left is_left counts here begun zero wide unlike alike =
-    one_counted laws have profile p painter picture k before row column (unlike column (omega arith) (omega arith)) old mid (behind_each profile.columns row column (column + 1) mid) left is_left begun here counts refl
-    (omega arith) refl (ap (spot_after profile.columns row) (omega arith)) refl
-each_goes laws have profile p painter picture k columns before row column old mid left is_left counts here begun (suc n) wide unlike alike =
+each_goes laws have profile p painter who picture k columns before row column old mid left is_left counts here begun zero wide unlike alike =
+    one_counted laws have profile p painter who picture k before row column (unlike column (omega arith) (omega arith)) old mid (behind_each profile picture row column (column + 1) mid) left is_left begun here counts refl
+    (ap (λ n. counted_up (mid.bytes + n)) (one_bytes profile picture row column)) refl (ap (spot_after profile.columns row) (omega arith)) refl
+each_goes laws have profile p painter who picture k columns before row column old mid left is_left counts here begun (suc n) wide unlike alike =
     let at : ℕ = column + suc n in
-    let now : Draft = behind_each profile.columns row column at mid in
+    let now : Draft = behind_each profile picture row column at mid in
     let last : at ≡ column + n + 1 = omega arith in
     let pen : PenView = (painter_look painter picture (row, at)).pen in
     let before_pen : PenView = (painter_look painter picture (row, column + n)).pen in
@@ -220,28 +225,28 @@ each_goes laws have profile p painter picture k columns before row column old mi
     ap (λ b. if b then At row (at - 1 + 1) else Margin row) inside ∙ ap (At row) (omega arith) in
     let next : at + 1 ≡ column + suc (suc n) = omega arith in
     subst (λ next. Counts profile painter picture before row column next old mid) next
-    (part_goes profile painter picture before row column at (at + 1) old now (behind_each profile.columns row column (at + 1) mid) (omega arith) (omega arith)
-    (each_goes laws have profile p painter picture k columns before row column old mid left is_left counts here begun n (omega (arith, wide)) (λ c low high. unlike c low (omega (arith, high))) (λ c low high. alike c low (omega (arith, high))))
-    (one_counted laws have profile p painter picture k before row at (unlike at (omega arith) (omega arith)) now now (behind_each profile.columns row column (at + 1) mid) (pen_before painter picture before row at) refl
-    (unless_there profile painter now (pen_before painter picture before row at) (row, at) pen that) there counts refl (omega arith) refl (ap (spot_after profile.columns row) (omega arith)) refl))
+    (part_goes profile painter picture before row column at (at + 1) old now (behind_each profile picture row column (at + 1) mid) (omega arith) (omega arith)
+    (each_goes laws have profile p painter who picture k columns before row column old mid left is_left counts here begun n (omega (arith, wide)) (λ c low high. unlike c low (omega (arith, high))) (λ c low high. alike c low (omega (arith, high))))
+    (one_counted laws have profile p painter who picture k before row at (unlike at (omega arith) (omega arith)) now now (behind_each profile picture row column (at + 1) mid) (pen_before painter picture before row at) refl
+    (unless_there profile painter now (pen_before painter picture before row at) (row, at) pen that) there counts refl (omega (arith, more_bytes profile picture row column at (omega arith))) refl (ap (spot_after profile.columns row) (omega arith)) refl))
   where
     inside : nat_lt (column + suc n - 1 + 1) profile.columns ≡ true
     inside = grind (arith, wide, columns)
 
 -- places from one column up to another
-pub unlike_goes : RunLaws → ProfilesHave → (profile : ProfileView) → IsProfile profile → (painter : Painter) (picture : PictureView) → IsPicture picture → profile.columns ≡ picture.columns → (before : Option (List LookView)) (row column next : ℕ) → column < next → next ≤ picture.columns
+pub unlike_goes : RunLaws → ProfilesHave → (profile : ProfileView) → IsProfile profile → (painter : Painter) → painter ≡ painter_of profile → (picture : PictureView) → IsPicture picture → profile.columns ≡ picture.columns → (before : Option (List LookView)) (row column next : ℕ) → column < next → next ≤ picture.columns
     → (old mid : Draft) (left : Option PenView) (pen : PenView) → left ≡ pen_before painter picture before row column → pen ≡ (painter_look painter picture (row, column)).pen → old.keeps ≡ false → mid.spot ≡ At row column
     → Continues profile old mid (if is_that_pen left pen then [] else painter_begins painter (row, column) pen)
     → ((c : ℕ) → column ≤ c → c < next → row_differs painter picture before (row, c) ≡ true)
     → ((c : ℕ) → column ≤ c → c < next → (painter_look painter picture (row, c)).pen ≡ (painter_look painter picture (row, column)).pen)
-    → Continues profile old (behind_each profile.columns row column next mid) (flat_map (row_paints painter picture before) (filter (row_differs painter picture before) (part_places column (next - column) row)))
+    → Continues profile old (behind_each profile picture row column next mid) (flat_map (row_paints painter picture before) (filter (row_differs painter picture before) (part_places column (next - column) row)))
 unfolding Counts
-unlike_goes laws have profile p painter picture k columns before row column next more wide old mid left pen is_left is_pen counts here begun unlike alike stores first start all joining =
+unlike_goes laws have profile p painter who picture k columns before row column next more wide old mid left pen is_left is_pen counts here begun unlike alike stores first start all joining =
     let n : ℕ = next - column - 1 in
     let whole : column + suc n ≡ next = omega (arith, more) in
     let still : mid.keeps ≡ false = (begun stores first start all joining).stored ∙ sym joining.stored ∙ counts in
     subst (λ next. Counts profile painter picture before row column next old mid) whole
-    (each_goes laws have profile p painter picture k columns before row column old mid left is_left still here
+    (each_goes laws have profile p painter who picture k columns before row column old mid left is_left still here
     (subst (λ pen. Continues profile old mid (if is_that_pen left pen then [] else painter_begins painter (row, column) pen)) is_pen begun) n (omega (arith, whole, wide))
     (λ c low high. unlike c low (omega (arith, high, whole))) (λ c low high. alike c low (omega (arith, high, whole)))) stores first start all joining
 

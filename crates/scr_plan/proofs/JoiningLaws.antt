@@ -6,12 +6,13 @@ use Rattle.std.proofs.lemmas.List.{append-nil}
 use Rattle.std.proofs.lemmas.Nat.{and_le_r}
 use Rattle.std.proofs.Math.Bool.{or-true}
 use Rattle.std.proofs.Math.Seq.{drop-append_seam, take-append_seam}
+use Rattle.scr_cells.specs.declared.charsets.Charset.TheVariants.{Utf8}
 use Rattle.scr_cells.specs.Grids.{grid_with, is_in_run}
 use Rattle.scr_cells.specs.PenViews.{PenView, is_plain_pen, plain_pen}
 use Rattle.scr_cells.specs.PictureViews.{PictureView, IsPicture, IsPlace}
 use Rattle.scr_term.specs.declared.operations.capability.Capability.TheVariants.{Sgr0}
 use Rattle.scr_term.specs.declared.operations.operation.Op.{Op}
-use Rattle.scr_term.specs.declared.operations.operation.Op.TheVariants.{EraseLine, Move, Put}
+use Rattle.scr_term.specs.declared.operations.operation.Op.TheVariants.{EraseLine, Move, Put, Write}
 use Rattle.scr_term.specs.declared.operations.operation.Spot.{Spot}
 use Rattle.scr_term.specs.declared.operations.operation.Spot.TheVariants.{At}
 use Rattle.scr_term.specs.Operations.Abilities.{full_abilities}
@@ -19,10 +20,10 @@ use Rattle.scr_term.specs.Operations.Laws.{HasLaws, ProfilesHave, RunLaws}
 use Rattle.scr_term.specs.Operations.Profiles.{ProfileView, IsProfile, abilities, is_there}
 use Rattle.scr_term.specs.Operations.States.{TerminalState, IsShownPen, IsState, erased, spot_after, written_at}
 use Rattle.scr_term.specs.Operations.Steps.{runs}
-use Rattle.scr_term.specs.Operations.Texts.{has}
+use Rattle.scr_term.specs.Operations.Texts.{has, put_of, bytes_of}
 use Rattle.scr_plan.proofs.JoinedLaws.{without_step}
 use Rattle.scr_plan.proofs.JoinedPriceLaws.{price, price_is, put_price}
-use Rattle.scr_plan.proofs.PlaceLaws.{at_place, begun_run, erases_line, first_step, move_run, one_run, plain, then_runs}
+use Rattle.scr_plan.proofs.PlaceLaws.{at_place, begun_run, erases_line, first_step, move_run, one_run, plain, then_runs, put_by}
 use Rattle.scr_plan.specs.Code.Drafts.{IsAdded}
 use Rattle.scr_plan.specs.Code.Joinings.{Continues, CountsAtMost, IsCounted, IsJoining, counted_up}
 use Rattle.scr_plan.specs.Code.Painters.{moves_unless_there, painter_begins, painter_leads, painter_of, resets_unless_plain}
@@ -147,16 +148,19 @@ begin_goes laws have profile p picture k painter who place inside pen is old new
     refl (sym is)
 
 -- a character
-pub put_goes : RunLaws → (profile : ProfileView) → IsProfile profile → (byte : ℕ) → has profile (Put byte) ≡ true → (old new : Draft) (r c : ℕ) → old.spot ≡ At r c
-    → (old.keeps ≡ true → new.ops.items ≡ old.ops.items ++ Put byte ∷ []) → (old.keeps ≡ false → new.ops.items ≡ old.ops.items) → new.bytes ≡ counted_up (old.bytes + 1) → new.keeps ≡ old.keeps → new.spot ≡ spot_after profile.columns r c → new.pen ≡ old.pen
-    → Continues profile old new (Put byte ∷ [])
-put_goes laws profile p byte had old new r c here added left paid keeps behind pen stores first start all joining =
+put_stays : (profile : ProfileView) (code : ℕ) (state : TerminalState) → without_idle profile state (put_of code ∷ []) ≡ put_of code ∷ []
+put_stays profile code state = put_by (λ op. without_idle profile state (op ∷ []) ≡ op ∷ []) code (busy profile state (Put code) (λ s. refl) [] (λ s. refl)) (busy profile state (Write code) (λ s. refl) [] (λ s. refl))
+
+pub put_goes : RunLaws → (profile : ProfileView) → IsProfile profile → HasLaws profile → (code : ℕ) → has profile (put_of code) ≡ true → (old new : Draft) (r c : ℕ) → old.spot ≡ At r c
+    → (old.keeps ≡ true → new.ops.items ≡ old.ops.items ++ put_of code ∷ []) → (old.keeps ≡ false → new.ops.items ≡ old.ops.items) → new.bytes ≡ counted_up (old.bytes + length (bytes_of profile (put_of code))) → new.keeps ≡ old.keeps → new.spot ≡ spot_after profile.columns r c → new.pen ≡ old.pen
+    → Continues profile old new (put_of code ∷ [])
+put_goes laws profile p can code had old new r c here added left paid keeps behind pen stores first start all joining =
     let now : TerminalState = joining.now in
-    let next : TerminalState = record { grid = grid_with now.grid r c (record { character = byte; pen = now.pen }); spot = spot_after profile.columns r c; pen = now.pen } in
-    let run : runs profile now (Put byte ∷ []) ≡ Some next = one_run profile now next (Put byte) had (ap (written_at profile.columns now byte) (joining.spot ∙ here)) in
-    led laws profile p stores first start all old new (Put byte ∷ []) (Put byte ∷ []) next.spot old.pen next
-    (record { keeps = keeps; ops = added; left = left; bytes = λ _. paid ∙ ap (λ n. counted_up (old.bytes + n)) (sym (put_price profile byte)); spot_is = behind; pen_is = pen }) joining
-    (busy_becomes profile now next (Put byte ∷ []) run (busy profile now (Put byte) (λ s. refl) [] (λ s. refl))) refl joining.pen
+    let next : TerminalState = record { grid = grid_with now.grid r c (record { character = code; pen = now.pen }); spot = spot_after profile.columns r c; pen = now.pen } in
+    let run : runs profile now (put_of code ∷ []) ≡ Some next = one_run profile now next (put_of code) had (can.put_acts now code ∙ ap (written_at profile.columns now code) (joining.spot ∙ here)) in
+    led laws profile p stores first start all old new (put_of code ∷ []) (put_of code ∷ []) next.spot old.pen next
+    (record { keeps = keeps; ops = added; left = left; bytes = λ _. paid ∙ ap (λ n. counted_up (old.bytes + n)) (sym (put_price profile code)); spot_is = behind; pen_is = pen }) joining
+    (busy_becomes profile now next (put_of code ∷ []) run (put_stays profile code now)) refl joining.pen
 
 -- the rest of a line is erased
 pub erase_goes : RunLaws → (profile : ProfileView) → IsProfile profile → has profile EraseLine ≡ true → (old new : Draft) (r c : ℕ) → old.spot ≡ At r c → is_plain_pen old.pen ≡ true
@@ -208,7 +212,7 @@ may_reset profile can pen shown = may_by (is_there profile Sgr0) refl
     may_by b is = grind arith
 
 -- a state of the emulated terminal is one of the profile when no attribute is on
-plain_state : (profile : ProfileView) (state : TerminalState) → IsState (full_abilities profile.rows profile.columns) state → IsState (abilities profile) (plain state)
+plain_state : (profile : ProfileView) (state : TerminalState) → IsState (full_abilities Utf8 profile.rows profile.columns) state → IsState (abilities profile) (plain state)
 plain_state profile state is = record { whole = is.whole; looks = is.looks; spot = is.spot; pen = plain_shown profile }
 
 -- attributes are turned off where they can be, or where none is on

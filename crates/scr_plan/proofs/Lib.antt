@@ -6,6 +6,7 @@ pub mod JoinedLaws
 pub mod JoinedPriceLaws
 pub mod JoinedRowLaws
 pub mod JoiningLaws
+pub mod LengthLaws
 pub mod LookingLaws
 pub mod RememberedPlanLaws
 pub mod RepeatLaws

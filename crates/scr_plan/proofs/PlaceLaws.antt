@@ -1,5 +1,5 @@
 -- One place is painted from every state of a profile.
-use Rattle.std.proofs.Common.{◌≡◌, ℕ, ◌<◌, ◌==◌, ◌||◌, Bool, true, All, cond, refl, ◌∙◌, ap, arith, eqb, List, [], ◌∷◌, ◌++◌, Option, Some, None, IfSome, bit_and, bit_or, get_or, map, filter, zero, suc, option_and_then, if◌then◌else◌}
+use Rattle.std.proofs.Common.{◌≡◌, ℕ, ◌<◌, ◌==◌, ◌||◌, Bool, true, All, cond, refl, ◌∙◌, ap, arith, eqb, List, [], ◌∷◌, ◌++◌, Option, Some, None, IfSome, bit_and, bit_or, get_or, map, filter, zero, suc, option_and_then, if◌then◌else◌, nat_lt, false}
 use Rattle.std.specs.List.{AllByRecursion}
 use Rattle.std.specs.Int.{bit_at}
 use Rattle.std.proofs.lemmas.Bool.{agree_below_at, eqb-true}
@@ -9,20 +9,20 @@ use Rattle.std.proofs.lemmas.Nat.{and_le_l}
 use Rattle.std.proofs.lemmas.Nat.Bits.{same_from_bits, bit_at_and}
 use Rattle.scr_cells.specs.Attributes.{all_attributes, attributes_of}
 use Rattle.scr_cells.specs.CellViews.{CellView, IsCell, blank_cell}
-use Rattle.scr_cells.specs.Characters.{IsCharacter, stand_in}
+use Rattle.scr_cells.specs.Characters.{IsCharacter, seen_character}
 use Rattle.scr_cells.specs.Grids.{grid_at, is_in_run}
 use Rattle.scr_cells.specs.LookViews.{LookView}
 use Rattle.scr_cells.specs.PenViews.{is_plain_pen, pair_colours, plain_pen}
 use Rattle.scr_cells.specs.PictureViews.{PictureView, IsPicture, IsPlace}
 use Rattle.scr_term.specs.declared.operations.capability.Capability.TheVariants.{Sgr0}
 use Rattle.scr_term.specs.declared.operations.operation.Op.{Op}
-use Rattle.scr_term.specs.declared.operations.operation.Op.TheVariants.{EraseBelow, EraseLine, Move, Put, Reset}
+use Rattle.scr_term.specs.declared.operations.operation.Op.TheVariants.{EraseBelow, EraseLine, Move, Put, Reset, Write}
 use Rattle.scr_term.specs.declared.operations.operation.Spot.TheVariants.{At}
-use Rattle.scr_term.specs.Operations.Laws.{HasLaws, ProfilesHave, RunLaws, WritesStandIns}
+use Rattle.scr_term.specs.Operations.Laws.{HasLaws, ProfilesHave, RunLaws, WritesSeen}
 use Rattle.scr_term.specs.Operations.Profiles.{ProfileView, IsProfile, abilities, has_colours, is_there, shown_set}
 use Rattle.scr_term.specs.Operations.States.{TerminalState, IsShownPen, erased, from_place, is_from_place, rest_of_line_erased}
 use Rattle.scr_term.specs.Operations.Steps.{act, lines_below_erased, runs, step}
-use Rattle.scr_term.specs.Operations.Texts.{has, is_attribute}
+use Rattle.scr_term.specs.Operations.Texts.{has, is_attribute, put_of}
 use Rattle.scr_plan.specs.Scratch.{enter, look_at, renders, resets, sets_background, sets_foreground, PlaceIsPainted}
 
 -- ---- runs
@@ -132,10 +132,23 @@ background_set : (profile : ProfileView) → HasLaws profile → (old : Terminal
     → runs profile (with_pen old place attrs f None) (sets_background b) ≡ Some (with_pen old place attrs f b)
 background_set profile can old place attrs f b seen = grind arith
 
--- what stands in for a character can be written
-pub stand_in_had : (profile : ProfileView) → HasLaws profile → (code : ℕ) → IsCharacter code → has profile (Put (stand_in code)) ≡ true
-unfolding WritesStandIns
-stand_in_had profile can code is = can.stand_ins code is
+-- what holds of both operations that write a character holds of what writes one
+pub put_by : (P : Op → Type 0) (code : ℕ) → P (Put code) → P (Write code) → P (put_of code)
+unfolding put_of
+put_by P code put write = by (nat_lt code 128)
+  where
+    by : (t : Bool) → P (cond t (Put code) (Write code))
+    by true = put
+    by false = write
+
+pub put_other : (code : ℕ) → nat_lt code 128 ≡ false → put_of code ≡ Write code
+unfolding put_of
+put_other code many = ap (λ t. cond t (Put code) (Write code)) many
+
+-- what is seen of a character can be written
+pub seen_had : (profile : ProfileView) → HasLaws profile → (code : ℕ) → IsCharacter code → has profile (put_of (seen_character profile.charset code)) ≡ true
+unfolding WritesSeen
+seen_had profile can code is = can.seen code is
 
 -- ---- what is seen of a cell
 
@@ -189,5 +202,5 @@ begun_run laws have profile p picture k place old =
 pub place_is_painted : RunLaws → ProfilesHave → PlaceIsPainted
 place_is_painted laws have profile p picture k place inside old s =
     let cell : IsCell (grid_at blank_cell picture.lines place.0 place.1) = cell_of picture.lines place.0 place.1 (recursion_from_All (All IsCell) picture.lines k.cells) in
-    let had : has profile (Put (look_at profile picture place).character) ≡ true = stand_in_had profile (have profile p) _ cell.character in
-    grind (arith, then_runs, goes_by, begun_run, one_run)
+    let had : has profile (put_of (look_at profile picture place).character) ≡ true = seen_had profile (have profile p) _ cell.character in
+    grind (arith, then_runs, goes_by, begun_run, one_run, (have profile p).put_acts)

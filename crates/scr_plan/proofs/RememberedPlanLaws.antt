@@ -1,6 +1,7 @@
 -- What is remembered after a plan, and that a known row shows the picture but for the columns that may look otherwise.
 use Rattle.std.proofs.Common.{arith, ◌≡◌, ℕ, zero, suc, ◌==◌, ◌&&◌, ◌||◌, not, Bool, true, false, refl, sym, ◌∙◌, ap, append_assoc, subst, List, [], ◌∷◌, ◌++◌, Some, replicate, if◌then◌else◌, ◌+◌, ◌<◌, leb, ltb, get_or, length, map}
 use Rattle.std.specs.List.{list_all, range_with_len}
+use Rattle.scr_cells.specs.declared.charsets.Charset.TheVariants.{Utf8}
 use Rattle.scr_term.specs.declared.operations.capability.Capability.TheVariants.{Sgr0}
 use Rattle.scr_term.specs.declared.operations.operation.Op.{Op}
 use Rattle.scr_term.specs.declared.operations.operation.Op.TheVariants.{Clear, Reset}
@@ -138,7 +139,7 @@ up_to_date runs = record {
   holds = λ profile memory old new changes rows columns same r c high wide known out.
       let low : r < old.picture.rows = omega (arith, high, rows) in
       let left : c < old.picture.columns = omega (arith, wide, columns) in
-      same r c low left known (was_outside old new changes r c out) ∙ sym (changes.altered.holds (abilities profile).shown (abilities profile).colours r c low left out);
+      same r c low left known (was_outside old new changes r c out) ∙ sym (changes.altered.holds (abilities profile).charset (abilities profile).shown (abilities profile).colours r c low left out);
   follows = λ profile memory virtual ops may k plan r c high wide known out.
       let shown = plan.shows memory.state (record { state = may.state; agrees = λ _. agrees_itself (abilities profile) memory may }) in
       ap (λ state. grid_at blank state.grid r c) (runs.state profile memory shown.new ops shown.run)

@@ -9,7 +9,7 @@ use Rattle.scr_cells.specs.Grids.{GridLaws, IsGrid, grid_at, grid_of, grid_row, 
 use Rattle.scr_cells.specs.LookViews.{LookView, blank}
 use Rattle.scr_cells.specs.PictureViews.{PictureView, IsPicture, IsPlace}
 use Rattle.scr_term.specs.declared.operations.operation.Op.{Op}
-use Rattle.scr_term.specs.declared.operations.operation.Op.TheVariants.{Clear, Put, Reset}
+use Rattle.scr_term.specs.declared.operations.operation.Op.TheVariants.{Clear, Reset}
 use Rattle.scr_term.specs.declared.operations.operation.Spot.TheVariants.{At}
 use Rattle.scr_term.specs.Operations.Ecma48.{Ecma48Laws}
 use Rattle.scr_term.specs.Operations.Laws.{BytesActAsTheirOperations, HasLaws, ProfilesHave, RunLaws, BlankLaws}
@@ -25,7 +25,7 @@ use Rattle.std.proofs.Math.Nat.{mul-le-mul_right}
 use Rattle.scr_cells.specs.Attributes.{attributes_of}
 use Rattle.scr_cells.specs.PenViews.{PenView}
 use Rattle.scr_term.specs.declared.operations.capability.Capability.TheVariants.{Sgr0}
-use Rattle.scr_term.specs.Operations.Texts.{has}
+use Rattle.scr_term.specs.Operations.Texts.{has, put_of}
 
 -- ---- places that show what is seen of the picture
 
@@ -191,7 +191,7 @@ goes_few profile place = grind arith
 place_few : (profile : ProfileView) (picture : PictureView) (place : ℕ × ℕ) → length (paints_place profile picture place) ≤ 12
 place_few profile picture place =
     let look : LookView = look_at profile picture place in
-    let put : List Op = Put look.character ∷ [] in
+    let put : List Op = put_of look.character ∷ [] in
     omega (arith, goes_few profile place, renders_few look.pen, length-append (goes profile place ++ renders look.pen) put, length-append (goes profile place) (renders look.pen))
 
 -- so many for each

@@ -12,7 +12,7 @@ part_at : {A : Type 0} (xs : List A) (from n i c : ℕ) (d : A) → i < n → fr
 part_at xs from n i c d near there = get_or-take n (drop from xs) i d near ∙ get_or-drop from xs i d ∙ ap (λ k. get_or xs k d) there
 
 pub part_shown : (painter : Painter) (pairs : List (Option ℕ × Option ℕ)) (from end count : ℕ) (looks : List LookView) (cells : List CellView) → from ≤ end → count ≤ end - from
-    → ((i : ℕ) → i < count → IsSeenAt painter.shown.0 (take (end - from) (drop from looks)) (take (end - from) (drop from cells)) i)
+    → ((i : ℕ) → i < count → IsSeenAt painter.charset painter.shown.0 (take (end - from) (drop from looks)) (take (end - from) (drop from cells)) i)
     → (c : ℕ) → from ≤ c → c < from + count → get_or looks c blank ≡ painter_sees painter pairs (get_or cells c blank_cell)
 part_shown painter pairs from end count looks cells order few same c low high =
     let there : from + (c - from) ≡ c = omega (arith, low) in
@@ -23,7 +23,7 @@ part_shown painter pairs from end count looks cells order few same c low high =
 
 -- the same of places that are not shown, and of cells that are alike
 pub part_unlike : (painter : Painter) (pairs : List (Option ℕ × Option ℕ)) (from end count : ℕ) (looks : List LookView) (cells : List CellView) → from ≤ end → count ≤ end - from
-    → ((i : ℕ) → i < count → IsUnseenAt painter.shown.0 (take (end - from) (drop from looks)) (take (end - from) (drop from cells)) i)
+    → ((i : ℕ) → i < count → IsUnseenAt painter.charset painter.shown.0 (take (end - from) (drop from looks)) (take (end - from) (drop from cells)) i)
     → (c : ℕ) → from ≤ c → c < from + count → get_or looks c blank ≢ painter_sees painter pairs (get_or cells c blank_cell)
 part_unlike painter pairs from end count looks cells order few unlike c low high same =
     let there : from + (c - from) ≡ c = omega (arith, low) in

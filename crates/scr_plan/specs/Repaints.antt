@@ -9,11 +9,11 @@ use Rattle.scr_cells.specs.PictureViews.{PictureView, IsPicture}
 use Rattle.scr_virtual.specs.Ranges.{in_range}
 use Rattle.scr_virtual.specs.VirtualViews.{VirtualView, altered_at}
 use Rattle.scr_term.specs.declared.operations.operation.Op.{Op}
-use Rattle.scr_term.specs.declared.operations.operation.Op.TheVariants.{Clear, EraseLine, Move, Put, Reset}
+use Rattle.scr_term.specs.declared.operations.operation.Op.TheVariants.{Clear, EraseLine, Move, Reset}
 use Rattle.scr_term.specs.Operations.Profiles.{ProfileView, IsProfile, abilities}
 use Rattle.scr_term.specs.Operations.States.{TerminalState, IsState, blank_state}
 use Rattle.scr_term.specs.Operations.Steps.{step}
-use Rattle.scr_term.specs.Operations.Texts.{all_bytes, bytes_of, has}
+use Rattle.scr_term.specs.Operations.Texts.{all_bytes, bytes_of, has, put_of}
 use Rattle.scr_memory.specs.Memories.{Agrees, MemoryView, is_in_place, is_known, is_known_row, is_placed, remembered}
 use Rattle.scr_plan.specs.Scratch.{Fits, RunsToShow, goes, look_at, paints_place, places, places_cursor, renders, resets, scratch_of}
 
@@ -84,7 +84,7 @@ begins_place profile picture memory r c =
 
 -- What paints a place: after such a neighbour its character alone.
 abbrev pub brief_place : ProfileView → PictureView → MemoryView → ℕ × ℕ → List Op
-brief_place profile picture memory place = begins_place profile picture memory place.0 place.1 ++ Put (look_at profile picture place).character ∷ []
+brief_place profile picture memory place = begins_place profile picture memory place.0 place.1 ++ put_of (look_at profile picture place).character ∷ []
 
 -- ---- the joined repaint: what an update sends no more than
 

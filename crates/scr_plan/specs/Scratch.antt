@@ -12,11 +12,11 @@ use Rattle.scr_term.specs.Operations.Admission.{IsEcma48}
 use Rattle.scr_term.specs.Operations.Profiles.{ProfileView, IsProfile, abilities, is_there}
 use Rattle.scr_term.specs.Operations.States.{TerminalState, IsState, negative_state, spot_after}
 use Rattle.scr_term.specs.Operations.Steps.{runs}
-use Rattle.scr_term.specs.Operations.Texts.{all_bytes}
+use Rattle.scr_term.specs.Operations.Texts.{all_bytes, put_of}
 use Rattle.scr_term.specs.Operations.Painted.{Shows, ShowsNegative, seen_on}
 use Rattle.scr_term.specs.Ecma.Meanings.{Leads}
 use Rattle.scr_term.specs.declared.operations.operation.Op.{Op}
-use Rattle.scr_term.specs.declared.operations.operation.Op.TheVariants.{Move, Clear, Reset, Enter, Fore, Back, Put}
+use Rattle.scr_term.specs.declared.operations.operation.Op.TheVariants.{Move, Clear, Reset, Enter, Fore, Back}
 
 -- ---- the operations
 
@@ -54,7 +54,7 @@ goes profile place = if profile.msgr then Move place.0 place.1 ∷ resets profil
 -- Paints one place: the cursor there, its attributes and colours, and its character.
 abbrev pub paints_place : ProfileView → PictureView → ℕ × ℕ → List Op
 paints_place profile picture place =
-    goes profile place ++ renders (look_at profile picture place).pen ++ Put (look_at profile picture place).character ∷ []
+    goes profile place ++ renders (look_at profile picture place).pen ++ put_of (look_at profile picture place).character ∷ []
 
 -- The places of row r, from the left.
 abbrev pub row_places : ℕ → ℕ → List (ℕ × ℕ)
@@ -124,7 +124,7 @@ ScratchIsBounded =
 -- lead to the negative of a state of the profile that shows the picture.
 pub record LeadsToShow (profile : ProfileView) (old : TerminalState) (text : List ℕ) (picture : PictureView) : Type 0 where
   pub new : TerminalState
-  pub leads : Leads profile.rows profile.columns (negative_state old) text (negative_state new)
+  pub leads : Leads profile.charset profile.rows profile.columns (negative_state old) text (negative_state new)
   pub shows : ShowsNegative (abilities profile) (negative_state new) picture
   pub state : IsState (abilities profile) new
 

@@ -2,11 +2,11 @@
 //! it is painted with the same pen, and the rest of the line is erased if that is worth it.
 ghost use Rattle.std.specs.Prelude.{ℕ, ◌≡◌, ◌+◌, ◌++◌, ◌∷◌, [], ◌-◌, ◌<◌, ◌≤◌, ◌⊎◌, IfOk, IfSome, None, Some, OnOk, filter, false, true, length, option_map, if◌then◌else◌};
 ghost use Rattle.std.specs.List.{flat_map};
-ghost use Rattle.scr_cells.specs.Characters.{IsAscii};
+ghost use Rattle.scr_cells.specs.Characters.{IsCharacter};
 ghost use Rattle.scr_cells.specs.LookViews.{blank};
 ghost use Rattle.scr_term.specs.declared.operations.operation.Op.TheVariants.{EraseLine};
 ghost use Rattle.scr_term.specs.declared.operations.operation.Spot.TheVariants.{At};
-ghost use Rattle.scr_term.specs.Operations.Texts.{has};
+ghost use Rattle.scr_term.specs.Operations.Texts.{has, put_of};
 ghost use Rattle.scr_term.specs.Operations.States.{spot_after};
 ghost use Rattle.scr_plan.specs.Code.Joinings.{Continues, IsAfter, ShowsRow, counted_up, joined_at};
 ghost use Rattle.scr_plan.specs.Code.Painters.{is_that_pen, painter_begins, painter_look, painter_writes, part_places, pen_before, row_differs, row_paints};
@@ -111,9 +111,11 @@ impl Draft {
         ensures all { IfOk result (λ next. Continues scene.now.profile.now self.old self.new (flat_map (row_paints scene.now.painter scene.now.picture.now (option_map (λ looks. looks.now) line.now.before)) (filter (row_differs scene.now.painter scene.now.picture.now (option_map (λ looks. looks.now) line.now.before)) (part_places column (next.0 - column) line.now.row)))) }
     {
         character_laws();
+        profiles_have();
+        let _profile = scene.profile.size();
         let _size = scene.picture.size();
-        let (byte, pen) = scene.seen_in(line.cells, column);
-        if is_shown_in(line.before, column, byte, pen) {
+        let (code, pen) = scene.seen_in(line.cells, column);
+        if is_shown_in(line.before, column, code, pen) {
             let next = scene.unlike_from(line, column + 1, end);
             return Ok((next, None));
         }
@@ -126,7 +128,7 @@ impl Draft {
                     pen,
                 },
                 left,
-                byte,
+                code,
             )?;
             return Ok((column + 1, Some(pen)));
         }
@@ -186,19 +188,20 @@ impl Draft {
         scene: &Scene<'_>,
         to: &Target,
         left: Option<Pen>,
-        byte: u8,
+        code: u32,
     ) -> Result<(), NoMemory>
         requires scene { IsScene scene.now }
         requires row { to.now.row < scene.now.picture.now.rows }
         requires column { to.now.column < scene.now.picture.now.columns }
-        requires look { record { character = byte; pen = to.now.pen } ≡ painter_look scene.now.painter scene.now.picture.now (to.now.row, to.now.column) }
-        requires byte { IsAscii byte }
+        requires look { record { character = code; pen = to.now.pen } ≡ painter_look scene.now.painter scene.now.picture.now (to.now.row, to.now.column) }
+        requires character { IsCharacter code }
+        requires has { has scene.now.profile.now (put_of code) ≡ true }
         requires after { IsAfter scene.now.picture.now.columns self.old to.now.row to.now.column left }
-        ensures all { OnOk result (Continues scene.now.profile.now self.old self.new (painter_writes scene.now.painter left (to.now.row, to.now.column) (record { character = byte; pen = to.now.pen }))) }
+        ensures all { OnOk result (Continues scene.now.profile.now self.old self.new (painter_writes scene.now.painter left (to.now.row, to.now.column) (record { character = code; pen = to.now.pen }))) }
         ensures after { OnOk result (IsAfter scene.now.picture.now.columns self.new to.now.row (to.now.column + 1) (Some to.now.pen)) }
     {
         self.join_begin_unless(scene, to, left)?;
-        self.put(scene.profile, to.row, to.column, byte)
+        self.put(scene.profile, to.row, to.column, code)
     }
 
     // Adds what leads to a place with the pen that is seen there, unless the place before it was

@@ -1,23 +1,25 @@
 //! The joined repaint, operation by operation: each is counted, and kept if that is asked for.
 //! `specs/Repaints.antt` defines it.
 ghost use Rattle.std.specs.Prelude.{◌≡◌, ◌+◌, ◌≤◌, ◌++◌, ◌∷◌, [], ◌⊎◌, All, IfOk, IfSome, OnOk, length, true};
-ghost use Rattle.scr_cells.specs.Characters.{IsAscii};
+ghost use Rattle.scr_cells.specs.Characters.{IsCharacter};
 ghost use Rattle.scr_cells.specs.PenViews.{is_plain_pen, plain_pen};
 ghost use Rattle.scr_cells.specs.PictureViews.{IsPlace};
-ghost use Rattle.scr_term.specs.declared.operations.operation.Op.TheVariants.{EraseLine, Put};
+ghost use Rattle.scr_term.specs.declared.operations.operation.Op.TheVariants.{EraseLine};
 ghost use Rattle.scr_term.specs.declared.operations.operation.Spot.TheVariants.{At};
 ghost use Rattle.scr_term.specs.declared.operations.capability.Capability.TheVariants.{Sgr0};
 ghost use Rattle.scr_term.specs.Operations.Profiles.{is_there};
 ghost use Rattle.scr_term.specs.Operations.States.{blank_state, spot_after};
-ghost use Rattle.scr_term.specs.Operations.Texts.{all_bytes, has};
+ghost use Rattle.scr_term.specs.Operations.Texts.{all_bytes, has, put_of};
 ghost use Rattle.scr_plan.specs.Code.Joinings.{Continues, IsCounted, IsJoining, counted_up};
 ghost use Rattle.scr_plan.specs.Code.Painters.{painter_begins};
 ghost use Rattle.scr_plan.specs.Scratch.{look_at, places_cursor, resets};
 ghost use Rattle.scr_plan.specs.Code.Scenes.{IsScene};
 
+use crate::lengths::encoded_length;
+use crate::painting::written_by;
 use crate::scenes::Scene;
 use crate::strokes::Draft;
-use scr_cells::{NoMemory, Pen};
+use scr_cells::{NoMemory, Pen, character_laws};
 use scr_memory::Memory;
 use scr_prices::Target;
 use scr_term::{Op, Profile, Spot, blank_laws, profiles_have, run_laws};
@@ -107,26 +109,28 @@ impl Draft {
         Ok(())
     }
 
-    // Adds a character at the cursor: counted as one byte, and kept if that is asked for.
+    // Adds a character at the cursor: counted, and kept if that is asked for.
     pub(crate) fn put(
         &mut self,
         profile: &Profile,
         row: u32,
         column: u32,
-        byte: u8,
+        code: u32,
     ) -> Result<(), NoMemory>
         requires here { self.old.spot ≡ At row column }
         requires place { IsPlace profile.now.rows profile.now.columns (row, column) }
-        requires byte { IsAscii byte }
-        ensures all { OnOk result (Continues profile.now self.old self.new (Put byte ∷ [])) }
+        requires character { IsCharacter code }
+        requires has { has profile.now (put_of code) ≡ true }
+        ensures all { OnOk result (Continues profile.now self.old self.new (put_of code ∷ [])) }
         ensures spot { OnOk result (self.new.spot ≡ spot_after profile.now.columns row column) }
         ensures pen { OnOk result (self.new.pen ≡ self.old.pen) }
     {
         run_laws();
         profiles_have();
+        character_laws();
         let size = profile.size();
-        self.keep(Op::Put(byte))?;
-        self.bytes = self.bytes.saturating_add(1);
+        self.keep(written_by(code))?;
+        self.bytes = self.bytes.saturating_add(encoded_length(code));
         self.spot = spot_after(row, column, size.columns);
         Ok(())
     }

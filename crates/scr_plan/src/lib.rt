@@ -5,6 +5,7 @@ mod blanks;
 mod joined_changes;
 mod joined_rows;
 mod joining;
+mod lengths;
 mod looked;
 mod looking;
 mod moving;

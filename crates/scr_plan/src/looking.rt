@@ -1,7 +1,7 @@
 //! Finding the places of a row that differ from what it shows, and the blanks at its end.
 ghost use Rattle.std.specs.Prelude.{ℕ, ◌≡◌, ◌≢◌, ◌+◌, ◌-◌, ◌<◌, ◌≤◌, ◌⊎◌, IfSome, List, Option, Some, false, true, length, option_map, slice_index_or, if◌then◌else◌};
 ghost use Rattle.scr_cells.specs.CellViews.{blank_cell};
-ghost use Rattle.scr_cells.specs.Characters.{stand_in};
+ghost use Rattle.scr_cells.specs.Characters.{seen_character};
 ghost use Rattle.scr_cells.specs.Grids.{grid_row};
 ghost use Rattle.scr_cells.specs.LookViews.{blank};
 ghost use Rattle.scr_cells.specs.Showing.{HasRendition};
@@ -18,21 +18,27 @@ use crate::scenes::{Line, Scene};
 use scr_cells::{Cell, Look, Pen, alike_before, character_laws, shown_before, unshown_before};
 use scr_term::Op;
 
+// The code of a blank.
+const BLANK: u32 = 32;
+
 impl Scene<'_> {
-    // What is seen of a row's cell: its byte, and the pen that it is written with. Most cells are
+    // What is seen of a row's cell: the code of a character, and the pen that it is written with. Most cells are
     // blank, and their pen is plain.
     #[inline(always)]
-    pub(crate) fn seen_in(&self, cells: &[Cell], column: u32) -> (u8, Pen)
+    pub(crate) fn seen_in(&self, cells: &[Cell], column: u32) -> (u32, Pen)
         requires { column < length cells.now }
-        ensures byte { result.0 ≡ (painter_sees self.now.painter self.now.picture.now.pairs (slice_index_or cells.now column blank_cell)).character }
+        ensures code { result.0 ≡ (painter_sees self.now.painter self.now.picture.now.pairs (slice_index_or cells.now column blank_cell)).character }
         ensures pen { result.1 ≡ (painter_sees self.now.painter self.now.picture.now.pairs (slice_index_or cells.now column blank_cell)).pen }
     {
         character_laws();
         let cell = cell_in(cells, column);
         if cell == Cell::blank() {
-            return (b' ', Pen::plain());
+            return (BLANK, Pen::plain());
         }
-        (cell.byte(), self.painter.pen_of(self.picture, cell))
+        (
+            self.painter.code_of(cell),
+            self.painter.pen_of(self.picture, cell),
+        )
     }
 
     // The column from which the joined repaint erases the rest of a row, if it does. Only columns
@@ -72,11 +78,11 @@ impl Scene<'_> {
             count: 0,
         };
         while rest.begin > from {
-            let (byte, pen) = self.seen_in(line.cells, rest.begin - 1);
-            if !is_blank(byte, pen) {
+            let (code, pen) = self.seen_in(line.cells, rest.begin - 1);
+            if !is_blank(code, pen) {
                 return rest;
             }
-            rest = rest.with_blank(line.before, byte, pen);
+            rest = rest.with_blank(line.before, code, pen);
         }
         rest
     }
@@ -101,8 +107,8 @@ impl Scene<'_> {
         ensures none { result ≡ false → (c : ℕ) × (from ≤ c) × (c < end) × (look_eq (painter_look self.now.painter self.now.picture.now (row, c)) blank ≡ false) }
     {
         for column in from..end {
-            let (byte, pen) = self.seen_in(cells, column);
-            if !is_blank(byte, pen) {
+            let (code, pen) = self.seen_in(cells, column);
+            if !is_blank(code, pen) {
                 return false;
             }
         }
@@ -121,8 +127,8 @@ impl Scene<'_> {
         ensures unlike { result < end → row_differs self.now.painter self.now.picture.now (option_map (λ looks. looks.now) line.now.before) (line.now.row, result) ≡ true }
     {
         for column in from + self.shown_by_eight(line, from, end)..end {
-            let (byte, pen) = self.seen_in(line.cells, column);
-            if !is_shown_in(line.before, column, byte, pen) {
+            let (code, pen) = self.seen_in(line.cells, column);
+            if !is_shown_in(line.before, column, code, pen) {
                 return column;
             }
         }
@@ -163,10 +169,10 @@ impl Scene<'_> {
         requires width { IfSome line.now.before (λ looks. column < length looks.now) }
         ensures attrs { result ≡ false → first.attrs ≡ (slice_index_or line.now.cells.now column blank_cell).attrs }
         ensures pair { result ≡ false → first.pair ≡ (slice_index_or line.now.cells.now column blank_cell).pair }
-        ensures unlike { result ≡ false → look_eq (shown_in (option_map (λ looks. looks.now) line.now.before) column) (record { character = stand_in (slice_index_or line.now.cells.now column blank_cell).character; pen = pen }) ≡ false }
+        ensures unlike { result ≡ false → look_eq (shown_in (option_map (λ looks. looks.now) line.now.before) column) (record { character = seen_character self.now.painter.charset (slice_index_or line.now.cells.now column blank_cell).character; pen = pen }) ≡ false }
     {
         let cell = cell_in(line.cells, column);
-        !are_alike(first, cell) || is_shown_in(line.before, column, cell.byte(), pen)
+        !are_alike(first, cell) || is_shown_in(line.before, column, self.painter.code_of(cell), pen)
     }
 
     // The first column after `column` whose cell has other attributes or another colour pair; `end`
@@ -211,6 +217,7 @@ impl Scene<'_> {
                 unshown_before(
                     looks,
                     &line.cells[from as usize..end as usize],
+                    self.painter.charset,
                     self.painter.shown,
                 ) as u32
             }
@@ -234,6 +241,7 @@ impl Scene<'_> {
                 shown_before(
                     looks,
                     &line.cells[from as usize..end as usize],
+                    self.painter.charset,
                     self.painter.shown,
                 ) as u32
             }
@@ -254,16 +262,16 @@ pub(crate) struct Rest {
 
 impl Rest {
     // With one more blank in front.
-    fn with_blank(self, before: Option<&[Look]>, byte: u8, pen: Pen) -> Rest
+    fn with_blank(self, before: Option<&[Look]>, code: u32, pen: Pen) -> Rest
         requires begin { 0 < self.begin }
         requires width { IfSome before (λ looks. self.begin ≤ length looks.now) }
         requires few { self.count ≤ 500 }
         ensures begin { result.begin ≡ self.begin - 1 }
-        ensures first { result.first ≡ if look_eq (shown_in (option_map (λ looks. looks.now) before.entry) (self.begin - 1)) (record { character = byte; pen = pen }) then self.first else Some (self.begin - 1) }
-        ensures count { result.count ≡ if look_eq (shown_in (option_map (λ looks. looks.now) before.entry) (self.begin - 1)) (record { character = byte; pen = pen }) then self.count else self.count + 1 }
+        ensures first { result.first ≡ if look_eq (shown_in (option_map (λ looks. looks.now) before.entry) (self.begin - 1)) (record { character = code; pen = pen }) then self.first else Some (self.begin - 1) }
+        ensures count { result.count ≡ if look_eq (shown_in (option_map (λ looks. looks.now) before.entry) (self.begin - 1)) (record { character = code; pen = pen }) then self.count else self.count + 1 }
     {
         let begin = self.begin - 1;
-        if is_shown_in(before, begin, byte, pen) {
+        if is_shown_in(before, begin, code, pen) {
             return Rest {
                 begin,
                 first: self.first,
@@ -311,23 +319,23 @@ pub(crate) fn are_alike(a: Cell, b: Cell) -> bool
 
 // Whether a blank is seen.
 #[inline(always)]
-fn is_blank(byte: u8, pen: Pen) -> bool
-    ensures { result ≡ look_eq (record { character = byte; pen = pen }) blank }
+fn is_blank(code: u32, pen: Pen) -> bool
+    ensures { result ≡ look_eq (record { character = code; pen = pen }) blank }
 {
-    byte == b' ' && pen.is_plain()
+    code == BLANK && pen.is_plain()
 }
 
 // Whether a row shows a character with a pen in a column.
 #[inline(always)]
-pub(crate) fn is_shown_in(before: Option<&[Look]>, column: u32, byte: u8, pen: Pen) -> bool
+pub(crate) fn is_shown_in(before: Option<&[Look]>, column: u32, code: u32, pen: Pen) -> bool
     requires { IfSome before (λ looks. column < length looks.now) }
-    ensures { result ≡ look_eq (shown_in (option_map (λ looks. looks.now) before.entry) column) (record { character = byte; pen = pen }) }
+    ensures { result ≡ look_eq (shown_in (option_map (λ looks. looks.now) before.entry) column) (record { character = code; pen = pen }) }
 {
     let look = match before {
         Some(looks) => looks[column as usize],
         None => Look::blank(),
     };
-    look.byte() == byte && look.pen() == pen
+    look.code() == code && look.pen() == pen
 }
 
 // Whether a place was painted with a pen.

@@ -2,12 +2,14 @@
 ghost use Rattle.std.specs.Prelude.{◌≡◌, ◌<◌, ◌++◌, ◌==◌, ◌&&◌, [], IfOk, OnOk, map, filter, bit_and, if◌then◌else◌};
 ghost use Rattle.std.specs.List.{flat_map};
 ghost use Rattle.scr_cells.specs.Attributes.{attributes_of};
+ghost use Rattle.scr_cells.specs.Characters.{IsCharacter, seen_character};
+ghost use Rattle.scr_term.specs.Operations.Texts.{put_of};
 ghost use Rattle.scr_term.specs.declared.operations.operation.Op.TheVariants.{Enter};
 ghost use Rattle.scr_plan.specs.Repaints.{look_eq};
 ghost use Rattle.scr_plan.specs.Scratch.{scratch_of, row_places, renders, enter, places_cursor, sets_background, sets_foreground, Fits};
 ghost use Rattle.scr_plan.specs.Code.Painters.{moves_unless_there, painter_goes, painter_leads, painter_of, painter_paints, painter_paints_place, painter_resets, painter_sees, resets_unless_plain};
 
-use scr_cells::{Attrs, Cell, Look, NoMemory, Pen, Picture};
+use scr_cells::{Attrs, Cell, Charset, Look, NoMemory, Pen, Picture, character_laws};
 use scr_prices::Target;
 use scr_term::{Op, Ops, Profile, Spot};
 use std::alloc::Global;
@@ -17,8 +19,8 @@ use std::alloc::Global;
 ///
 /// First all attributes are turned off, in default colours, and the screen is cleared. Then every
 /// place is painted, row by row: the cursor moves there, attributes are turned off, in default
-/// colours, each attribute and each colour that is seen of the cell is turned on, and the byte is
-/// written. At the end attributes are turned off, in default colours, and the cursor moves to where
+/// colours, each attribute and each colour that is seen of the cell is turned on, and the character
+/// that is seen is written. At the end attributes are turned off, in default colours, and the cursor moves to where
 /// it is wanted. If the terminal has no `msgr`, attributes and colours are turned off before the
 /// cursor moves; if it has no `sgr0`, there are none.
 ///
@@ -44,6 +46,7 @@ pub fn scratch(alloc: Global, profile: &Profile, picture: &Picture) -> Result<Op
 // What painting needs to know of a profile, fetched once.
 #[derive(Clone, Copy)]
 pub(crate) struct Painter {
+    pub(crate) charset: Charset,
     pub(crate) shown: Attrs,
     colours: bool,
     can_reset: bool,
@@ -56,6 +59,7 @@ impl Painter {
         ensures { result ≡ painter_of profile.now }
     {
         Painter {
+            charset: profile.charset(),
             shown: profile.shows(),
             colours: profile.colours(),
             can_reset: profile.can_reset(),
@@ -94,7 +98,7 @@ impl Painter {
             },
             ops,
         )?;
-        ops.push(Op::Put(cell.byte()))?;
+        ops.push(written_by(self.code_of(cell)))?;
         Ok(())
     }
 
@@ -183,7 +187,16 @@ impl Painter {
     pub(crate) fn is_seen(self, picture: &Picture, look: Look, cell: Cell) -> bool
         ensures { result ≡ look_eq look (painter_sees self picture.now.pairs cell) }
     {
-        look.byte() == cell.byte() && look.pen() == self.pen_of(picture, cell)
+        look.code() == self.code_of(cell) && look.pen() == self.pen_of(picture, cell)
+    }
+
+    // The code of the character that is seen of a cell.
+    #[inline(always)]
+    pub(crate) fn code_of(self, cell: Cell) -> u32
+        ensures value { result ≡ seen_character self.charset cell.character }
+        ensures character { IsCharacter result }
+    {
+        self.charset.seen(cell)
     }
 
     // The pen that a cell is seen with.
@@ -229,6 +242,21 @@ impl Painter {
         }
         Ok(())
     }
+}
+
+// What writes the character of a code.
+#[inline(always)]
+#[tactic(auto, unfolding(scr_term::specs::Operations::Texts::put_of))]
+pub(crate) fn written_by(code: u32) -> Op
+    requires { IsCharacter code }
+    ensures { result ≡ put_of code }
+{
+    character_laws();
+    if code < 128 {
+        return Op::Put(code as u8);
+    }
+    // There is one, since no character is a surrogate.
+    Op::Write(char::from_u32(code).unwrap_or(' '))
 }
 
 // Adds an operation for each attribute of a set.

@@ -2,7 +2,7 @@
 //! where that takes fewer bytes.
 ghost use Rattle.std.specs.Prelude.{ℕ, ◌≡◌, ◌-◌, ◌<◌, ◌≤◌, IfOk, OnOk, length, slice_index_or, true};
 ghost use Rattle.scr_cells.specs.CellViews.{blank_cell};
-ghost use Rattle.scr_cells.specs.Characters.{stand_in};
+ghost use Rattle.scr_cells.specs.Characters.{seen_character};
 ghost use Rattle.scr_plan.specs.Code.Drafts.{Covers, in_part};
 ghost use Rattle.scr_plan.specs.Code.Painters.{painter_look};
 ghost use Rattle.scr_plan.specs.Code.Scenes.{IsScene};
@@ -11,6 +11,7 @@ ghost use Rattle.scr_term.specs.declared.operations.operation.Spot.TheVariants.{
 ghost use Rattle.scr_term.specs.Operations.Texts.{has};
 
 use crate::looking::cell_in;
+use crate::painting::Painter;
 use crate::scenes::Scene;
 use crate::strokes::Draft;
 use scr_cells::{Cell, Look, NoMemory, grid_laws};
@@ -69,16 +70,16 @@ impl Draft {
     {
         let size = scene.picture.size();
         let cells = scene.picture.row(row);
-        let same = same_end(cells, column, end);
+        let same = same_end(scene.painter, cells, column, end);
         let short = same.min(size.columns - 1);
         if column < short && is_repetition(scene.profile.prices(), short - column) {
-            let byte = cell_in(cells, column).byte();
-            if scene.profile.has(Op::Repeat(byte, short - column)) {
-                self.repeat(scene, (row, column), short, byte)?;
+            let code = scene.painter.code_of(cell_in(cells, column));
+            if code < 128 && scene.profile.has(Op::Repeat(code as u8, short - column)) {
+                self.repeat(scene, (row, column), short, code as u8)?;
                 return Ok(short);
             }
         }
-        let next = repetition_start(scene.profile.prices(), cells, same, end);
+        let next = repetition_start(scene, cells, same, end);
         self.put_each(scene, row, column, next)?;
         Ok(next)
     }
@@ -116,17 +117,18 @@ impl Draft {
     }
 }
 
-// The first column after `column` whose cell has another character; `end` if there is none before it.
-fn same_end(cells: &[Cell], column: u32, end: u32) -> u32
+// The first column after `column` of whose cell another character is seen; `end` if there is none
+// before it.
+fn same_end(painter: Painter, cells: &[Cell], column: u32, end: u32) -> u32
     requires column { column < end }
     requires wide { end ≤ length cells.now }
     ensures more { column < result }
     ensures end { result ≤ end }
-    ensures same { (c : ℕ) → column ≤ c → c < result → stand_in (slice_index_or cells.now c blank_cell).character ≡ stand_in (slice_index_or cells.now column blank_cell).character }
+    ensures same { (c : ℕ) → column ≤ c → c < result → seen_character painter.charset (slice_index_or cells.now c blank_cell).character ≡ seen_character painter.charset (slice_index_or cells.now column blank_cell).character }
 {
-    let byte = cell_in(cells, column).byte();
+    let code = painter.code_of(cell_in(cells, column));
     for next in column + 1..end {
-        if cell_in(cells, next).byte() != byte {
+        if painter.code_of(cell_in(cells, next)) != code {
             return next;
         }
     }
@@ -135,7 +137,7 @@ fn same_end(cells: &[Cell], column: u32, end: u32) -> u32
 
 // The first column from `from` on where characters begin that are worth a repetition; `end` if there
 // is none before it.
-fn repetition_start(prices: &Prices, cells: &[Cell], from: u32, end: u32) -> u32
+fn repetition_start(scene: &Scene<'_>, cells: &[Cell], from: u32, end: u32) -> u32
     requires from { from ≤ end }
     requires wide { end ≤ length cells.now }
     ensures more { from ≤ result }
@@ -143,8 +145,8 @@ fn repetition_start(prices: &Prices, cells: &[Cell], from: u32, end: u32) -> u32
 {
     let mut start = from;
     while start < end {
-        let next = same_end(cells, start, end);
-        if is_repetition(prices, next - start) {
+        let next = same_end(scene.painter, cells, start, end);
+        if is_repetition(scene.profile.prices(), next - start) {
             return start;
         }
         start = next;

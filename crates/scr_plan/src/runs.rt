@@ -323,11 +323,11 @@ impl Scene<'_> {
         ensures end { result ≤ end }
     {
         for column in from..end {
-            let (byte, with) = self.seen_in(line.cells, column);
+            let (code, with) = self.seen_in(line.cells, column);
             if with != pen {
                 return end;
             }
-            if !is_shown_in(line.before, column, byte, with) {
+            if !is_shown_in(line.before, column, code, with) {
                 return column;
             }
         }

@@ -3,7 +3,7 @@
 ghost use Rattle.std.specs.Prelude.{ℕ, ◌≡◌, ◌+◌, ◌-◌, ◌<◌, ◌≤◌, ◌++◌, ◌∷◌, [], IfOk, OnOk, false, length, true};
 ghost use Rattle.scr_term.specs.declared.operations.operation.Spot.TheVariants.{At};
 ghost use Rattle.scr_term.specs.Operations.Texts.{all_bytes, has};
-ghost use Rattle.scr_plan.specs.Code.Drafts.{Covers, IsAdded, IsPut, KeepsAll, KeepsEvery, in_part};
+ghost use Rattle.scr_plan.specs.Code.Drafts.{Covers, IsAdded, IsPut, KeepsAll, KeepsEvery, in_part, run_bytes};
 ghost use Rattle.scr_plan.specs.Code.Joinings.{IsCounted, counted_up};
 ghost use Rattle.scr_term.specs.Operations.States.{spot_after};
 ghost use Rattle.scr_plan.specs.Code.Painters.{painter_begins, painter_look};
@@ -11,6 +11,7 @@ ghost use Rattle.scr_plan.specs.Code.Scenes.{IsScene};
 
 use crate::joining::{price_of, price_of_one, spot_after};
 use crate::looking::cell_in;
+use crate::painting::written_by;
 use crate::scenes::Scene;
 use scr_cells::{Look, NoMemory, Pen, grid_laws};
 use scr_prices::{Cursor, Target};
@@ -158,13 +159,15 @@ impl Draft {
         requires spot { self.old.spot ≡ At row column }
         requires pen { (c : ℕ) → column ≤ c → c < end → self.old.pen ≡ (painter_look scene.now.painter scene.now.picture.now (row, c)).pen }
         ensures covers { OnOk result (Covers scene.now.profile.now scene.now.picture.now (in_part row column end) self.old self.new) }
-        ensures counts { OnOk result (self.old.keeps ≡ false → self.new ≡ record self.old { bytes = counted_up (self.old.bytes + (end - column)); spot = spot_after scene.now.profile.now.columns row (end - 1) }) }
+        ensures counts { OnOk result (self.old.keeps ≡ false → self.new ≡ record self.old { bytes = counted_up (self.old.bytes + run_bytes scene.now.profile.now scene.now.picture.now row column (end - column)); spot = spot_after scene.now.profile.now.columns row (end - 1) }) }
     {
         let size = scene.profile.size();
         if self.keeps {
             self.push_each(scene, row, column, end)?;
         }
-        self.bytes = self.bytes.saturating_add((end - column) as usize);
+        self.bytes = self
+            .bytes
+            .saturating_add(scene.bytes_of_run(row, column, end));
         self.spot = spot_after(row, end - 1, size.columns);
         Ok(())
     }
@@ -194,7 +197,7 @@ impl Draft {
         self.ops.reserve((end - column) as usize)?;
         for place in column..end {
             self.ops
-                .push_reserved(Op::Put(cell_in(cells, place).byte()));
+                .push_reserved(written_by(scene.painter.code_of(cell_in(cells, place))));
         }
         Ok(())
     }

@@ -1,5 +1,5 @@
 -- Making a short plan, operation by operation.
-use Rattle.std.specs.Prelude.{ℕ, ◌≡◌, ◌+◌, ◌-◌, nat_lt, ◌<◌, ◌≤◌, ◌==◌, ◌&&◌, ◌||◌, not, leb, ltb, Bool, true, false, List, [], ◌++◌, All, IfSome, length, Option, Some, None, if◌then◌else◌}
+use Rattle.std.specs.Prelude.{ℕ, suc, zero, ◌≡◌, ◌+◌, ◌-◌, nat_lt, ◌<◌, ◌≤◌, ◌==◌, ◌&&◌, ◌||◌, not, leb, ltb, Bool, true, false, List, [], ◌++◌, All, IfSome, length, Option, Some, None, if◌then◌else◌}
 use Rattle.std.specs.List.{list_all, list_any}
 use Rattle.scr_cells.specs.Grids.{grid_at, is_in_run}
 use Rattle.scr_cells.specs.LookViews.{LookView, blank}
@@ -11,7 +11,7 @@ use Rattle.scr_term.specs.declared.operations.operation.Spot.TheVariants.{At, Ma
 use Rattle.scr_term.specs.Operations.Profiles.{ProfileView, abilities}
 use Rattle.scr_term.specs.Operations.States.{TerminalState, IsState}
 use Rattle.scr_term.specs.Operations.Steps.{runs}
-use Rattle.scr_term.specs.Operations.Texts.{all_bytes, has}
+use Rattle.scr_term.specs.Operations.Texts.{all_bytes, has, bytes_of, put_of}
 use Rattle.scr_plan.specs.Code.Joinings.{counted_up}
 use Rattle.scr_plan.specs.Code.Painters.{row_differs}
 use Rattle.scr_memory.specs.Memories.{Agrees, MayBe, MemoryView, all_followed, is_known, is_known_row, made_plain, moves_rows}
@@ -89,13 +89,21 @@ Covers profile picture covers old new = (waits : ℕ × ℕ → Bool) → Keeps 
 abbrev pub in_part : ℕ → ℕ → ℕ → ℕ × ℕ → Bool
 in_part row from end place = is_in_run row from end place.0 place.1
 
+-- how many bytes the character has that is seen in a place, and those that are seen in n places of a row
+abbrev pub place_bytes : ProfileView → PictureView → ℕ → ℕ → ℕ
+place_bytes profile picture r c = length (bytes_of profile (put_of (look_at profile picture (r, c)).character))
+
+abbrev pub run_bytes : ProfileView → PictureView → ℕ → ℕ → ℕ → ℕ
+run_bytes profile picture r from zero = 0
+run_bytes profile picture r from (suc n) = run_bytes profile picture r from n + place_bytes profile picture r (from + n)
+
 -- a draft after characters of a row from one column up to another, when they are counted
-abbrev pub behind_them : ℕ → ℕ → ℕ → ℕ → Draft → Draft → Draft
-behind_them columns row column place old now = record {
+abbrev pub behind_them : ProfileView → PictureView → ℕ → ℕ → ℕ → Draft → Draft → Draft
+behind_them profile picture row column place old now = record {
   ops = now.ops;
   keeps = old.keeps;
-  bytes = counted_up (old.bytes + (place - column));
-  spot = if nat_lt place columns then At row place else Margin row;
+  bytes = counted_up (old.bytes + run_bytes profile picture row column (place - column));
+  spot = if nat_lt place profile.columns then At row place else Margin row;
   pen = old.pen;
 }
 
@@ -105,7 +113,7 @@ pub record IsPut (profile : ProfileView) (picture : PictureView) (row column pla
   pub bytes : now.bytes ≡ old.bytes
   pub spot : now.spot ≡ old.spot
   pub pen : now.pen ≡ old.pen
-  pub covers : Covers profile picture (in_part row column place) old (behind_them profile.columns row column place old now)
+  pub covers : Covers profile picture (in_part row column place) old (behind_them profile picture row column place old now)
 
 -- ---- runs that wait
 

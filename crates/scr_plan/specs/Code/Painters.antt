@@ -8,9 +8,10 @@ use Rattle.scr_cells.specs.PenViews.{PenView, is_plain_pen, pen_eq}
 use Rattle.scr_cells.specs.PictureViews.{PictureView}
 use Rattle.scr_term.specs.declared.operations.capability.Capability.TheVariants.{Sgr0}
 use Rattle.scr_term.specs.declared.operations.operation.Op.{Op}
-use Rattle.scr_term.specs.declared.operations.operation.Op.TheVariants.{Move, Put, Reset}
+use Rattle.scr_term.specs.declared.operations.operation.Op.TheVariants.{Move, Reset}
 use Rattle.scr_term.specs.declared.operations.operation.Spot.{Spot}
 use Rattle.scr_term.specs.Operations.Profiles.{ProfileView, has_colours, is_there, shown_set}
+use Rattle.scr_term.specs.Operations.Texts.{put_of}
 use Rattle.scr_memory.specs.Memories.{MemoryView, is_in_place, is_known_row}
 use Rattle.scr_plan.specs.Repaints.{look_eq, look_in}
 use Rattle.scr_plan.specs.Scratch.{renders}
@@ -19,6 +20,7 @@ use Rattle.scr_plan.specs.declared.painting.Painter.{Painter}
 -- what a painter knows of a profile
 abbrev pub painter_of : ProfileView → Painter
 painter_of profile = record {
+  charset = profile.charset;
   shown = record { 0 = shown_set profile };
   colours = has_colours profile;
   can_reset = is_there profile Sgr0;
@@ -49,12 +51,12 @@ painter_leads painter spot now place pen =
 
 -- what is seen of a cell
 abbrev pub painter_sees : Painter → List (Option ℕ × Option ℕ) → CellView → LookView
-painter_sees painter pairs cell = seen painter.shown.0 painter.colours pairs cell
+painter_sees painter pairs cell = seen painter.charset painter.shown.0 painter.colours pairs cell
 
 -- one place with a cell of these pairs' colours, and with the cell that the picture has there
 abbrev pub painter_paints : Painter → List (Option ℕ × Option ℕ) → ℕ × ℕ → CellView → List Op
 painter_paints painter pairs place cell =
-    painter_goes painter place ++ renders (painter_sees painter pairs cell).pen ++ Put (painter_sees painter pairs cell).character ∷ []
+    painter_goes painter place ++ renders (painter_sees painter pairs cell).pen ++ put_of (painter_sees painter pairs cell).character ∷ []
 
 abbrev pub painter_paints_place : Painter → PictureView → ℕ × ℕ → List Op
 painter_paints_place painter picture place = painter_paints painter picture.pairs place (grid_at blank_cell picture.lines place.0 place.1)
@@ -95,7 +97,7 @@ is_that_pen (Some left) pen = pen_eq left pen
 -- a character in a place, and what leads there with its pen, unless the place before it was painted with that pen
 abbrev pub painter_writes : Painter → Option PenView → ℕ × ℕ → LookView → List Op
 painter_writes painter left place look =
-    (if is_that_pen left look.pen then [] else painter_goes painter place ++ renders look.pen) ++ Put look.character ∷ []
+    (if is_that_pen left look.pen then [] else painter_goes painter place ++ renders look.pen) ++ put_of look.character ∷ []
 
 abbrev pub row_paints : Painter → PictureView → Option (List LookView) → ℕ × ℕ → List Op
 row_paints painter picture before place = painter_writes painter (pen_before painter picture before place.0 place.1) place (painter_look painter picture place)

@@ -12,5 +12,5 @@ loop-column-preserved c =
     let column = c.loop-column.column in
     let is : c.is_blank.result ≡ true = search rules in
     one_place_more (λ at. look_eq (painter_look c.args.self.now.painter picture (c.args.row, at)) blank ≡ true) c.args.from column c.loop-column.invariant
-    (ap (λ look. look_eq look blank) (sym (differs_by c.args.self.now.painter picture c.args.row None column c.args.cells.now c.seen_in-byte.result.0 c.seen_in-byte.result.1 c.requires.cells c.seen_in-byte.ensures.byte c.seen_in-byte.ensures.pen))
+    (ap (λ look. look_eq look blank) (sym (differs_by c.args.self.now.painter picture c.args.row None column c.args.cells.now c.seen_in-code.result.0 c.seen_in-code.result.1 c.requires.cells c.seen_in-code.ensures.code c.seen_in-code.ensures.pen))
     ∙ sym c.is_blank.ensures ∙ is)

@@ -1,6 +1,6 @@
 use Rattle.std.proofs.Common.{ap, arith, option_map, refl, rules, subst, sym, ◌≡◌, ◌∙◌, false, true, get_or}
 use Rattle.scr_cells.specs.CellViews.{blank_cell}
-use Rattle.scr_cells.specs.Characters.{stand_in}
+use Rattle.scr_cells.specs.Characters.{seen_character}
 use Rattle.scr_plan.proofs.JoinLaws.{place_shown}
 use Rattle.scr_plan.proofs.LookingLaws.{alike_in, alike_looks, first_places, one_place_more, rendition_looks, unlike_differs}
 use Rattle.scr_plan.specs.Code.Painters.{painter_look, painter_sees, row_differs}
@@ -32,7 +32,7 @@ loop-next-preserved c =
     record {
       unlike = λ first.
           one_place_more (λ k. row_differs c.args.self.now.painter c.args.self.now.picture.now (option_map (λ looks. looks.now) c.args.line.now.before) (c.args.line.now.row, k) ≡ true) c.args.column next (c.loop-next.invariant.unlike first)
-          (place_shown c.args.self.now.painter c.args.self.now.picture.now c.args.line.now.row (option_map (λ looks. looks.now) c.args.line.now.before) next cells (stand_in (get_or cells next blank_cell).character) c.pen_of-pen.result c.requires.line.cells refl pen
+          (place_shown c.args.self.now.painter c.args.self.now.picture.now c.args.line.now.row (option_map (λ looks. looks.now) c.args.line.now.before) next cells (seen_character c.args.self.now.painter.charset (get_or cells next blank_cell).character) c.pen_of-pen.result c.requires.line.cells refl pen
           (c.ends-in-loop-next.ensures.unlike goes));
       alike =
           one_place_more (λ k. (painter_look c.args.self.now.painter c.args.self.now.picture.now (c.args.line.now.row, k)).pen ≡ (painter_look c.args.self.now.painter c.args.self.now.picture.now (c.args.line.now.row, c.args.column)).pen) c.args.column next c.loop-next.invariant.alike

@@ -11,5 +11,5 @@ pub loop-column-preserved : goal.loop-column-preserved
 loop-column-preserved c =
     let shown : c.is_shown_in.result ≡ true = search rules in
     one_more c.args.self.now.painter c.args.self.now.picture.now c.args.line.now.row (option_map (λ looks. looks.now) c.args.line.now.before) c.args.from c.loop-column.column c.loop-column.invariant
-    (place_shown c.args.self.now.painter c.args.self.now.picture.now c.args.line.now.row (option_map (λ looks. looks.now) c.args.line.now.before) c.loop-column.column c.args.line.now.cells.now c.seen_in-byte.result.0 c.seen_in-byte.result.1 c.requires.line.cells
-    c.seen_in-byte.ensures.byte c.seen_in-byte.ensures.pen (sym c.is_shown_in.ensures ∙ shown))
+    (place_shown c.args.self.now.painter c.args.self.now.picture.now c.args.line.now.row (option_map (λ looks. looks.now) c.args.line.now.before) c.loop-column.column c.args.line.now.cells.now c.seen_in-code.result.0 c.seen_in-code.result.1 c.requires.line.cells
+    c.seen_in-code.ensures.code c.seen_in-code.ensures.pen (sym c.is_shown_in.ensures ∙ shown))

@@ -13,7 +13,7 @@ returns-clause-all c =
     let still : c.join_begin_unless.new.self.keeps ≡ false = c.in_ok-join_begin_unless.ensures.keeps ∙ c.requires.counts in
     subst (λ new. Continues c.args.scene.now.profile.now c.args.self.now new (flat_map (row_paints c.args.scene.now.painter picture before) (filter (row_differs c.args.scene.now.painter picture before) (part_places c.args.column (next - c.args.column) c.args.line.now.row))))
     (sym (c.in_ok-put_each.ensures.counts still))
-    (unlike_goes c.run_laws.ensures c.profiles_have.ensures _ c.size-size.ensures.profile c.args.scene.now.painter picture c.size-picture.ensures.picture (sym c.requires.scene.fits.columns) before c.args.line.now.row c.args.column next
+    (unlike_goes c.run_laws.ensures c.profiles_have.ensures _ c.size-size.ensures.profile c.args.scene.now.painter c.requires.scene.painter picture c.size-picture.ensures.picture (sym c.requires.scene.fits.columns) before c.args.line.now.row c.args.column next
     c.unlike_end-next.ensures.more (omega (arith, c.unlike_end-next.ensures.end, c.requires.end)) c.args.self.now c.join_begin_unless.new.self c.args.left c.args.pen c.requires.left c.requires.pen c.requires.counts c.in_ok-join_begin_unless.ensures.spot
     c.in_ok-join_begin_unless.ensures.all (c.unlike_end-next.ensures.unlike c.requires.unlike) c.unlike_end-next.ensures.alike)
 

@@ -1,5 +1,5 @@
-use Rattle.std.proofs.Common.{ap, arith, refl, subst, ◌≡◌, ◌∙◌, ◌≤◌}
-use Rattle.scr_cells.specs.Characters.{stand_in}
+use Rattle.std.proofs.Common.{ap, arith, refl, subst, ◌≡◌, ◌∙◌, ◌≤◌, ◌++◌, ◌∷◌, []}
+use Rattle.scr_cells.specs.Characters.{seen_character}
 use Rattle.scr_plan.specs.Code.Drafts.{IsPut}
 use Rattle.scr_plan.proofs.DraftLaws.{put_more, put_none}
 use Rattle.scr_plan.proofs.LookingLaws.{look_by}
@@ -20,9 +20,9 @@ loop-place-preserved c =
     record {
       put =
           put_more c.run_laws.ensures c.profiles_have.ensures c.grid_laws.ensures _ c.size-size.ensures.profile _ c.size-picture.ensures.picture c.requires.scene.fits _ c.requires.scene.painter c.args.row c.args.column c.loop-place.place
-          c.requires.row low (omega (arith, c.loop-place-test.true, c.requires.end)) c.byte.result c.args.self.now c.loop-place.self _ (c.requires.pen c.loop-place.place low c.loop-place-test.true)
-          (c.byte.ensures.value ∙ ap (λ cell. stand_in cell.character) c.cell_in.ensures ∙ ap (λ look. look.character) (look_by c.args.scene.now.painter c.args.scene.now.picture.now c.args.row c.loop-place.place c.row-cells.result.now c.row-cells.ensures.cells))
-          c.push_reserved.ensures.items refl refl refl refl c.loop-place.invariant.put;
+          c.requires.row low (omega (arith, c.loop-place-test.true, c.requires.end)) c.code_of.result c.args.self.now c.loop-place.self _ (c.requires.pen c.loop-place.place low c.loop-place-test.true)
+          (c.code_of.ensures.value ∙ ap (λ cell. seen_character c.args.scene.now.painter.charset cell.character) c.cell_in.ensures ∙ ap (λ look. look.character) (look_by c.args.scene.now.painter c.args.scene.now.picture.now c.args.row c.loop-place.place c.row-cells.result.now c.row-cells.ensures.cells))
+          (c.push_reserved.ensures.items ∙ ap (λ op. c.loop-place.self.ops.items ++ op ∷ []) c.written_by.ensures) refl refl refl refl c.loop-place.invariant.put;
       room = omega (arith, c.loop-place.invariant.room, c.push_reserved.ensures.len, c.push_reserved.ensures.capacity, c.loop-place-test.true);
     }
 
