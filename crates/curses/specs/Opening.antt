@@ -1,26 +1,32 @@
 -- Opening a screen on a terminal, and when that is refused. X/Open Curses Issue 7, newterm(), keypad().
 use Rattle.std.specs.Prelude.{◌≡◌, ◌≢◌, [], Option, Some, None}
+use Rattle.scr_cells.specs.declared.charsets.Charset.TheVariants.{Ascii}
 use Rattle.scr_cells.specs.declared.sizes.Size.{Size}
 use Rattle.ti_caps.specs.Description.{Description}
 use Rattle.ti_caps.specs.declared.slots.TheConstants.{RMCUP, RMKX, SMCUP, SMKX}
 use Rattle.ti_caps.specs.declared.table.Slot.{Slot}
 use Rattle.scr_term.specs.declared.operations.profile_faults.ProfileFault.{ProfileFault}
 use Rattle.scr_term.specs.declared.operations.profile_faults.ProfileFault.TheVariants as profile_faults
-use Rattle.scr_term.specs.Operations.Admission.{IsAdmitted, refusal}
+use Rattle.scr_term.specs.Operations.Admission.{IsAdmittedAs, refusal}
 use Rattle.scr_windows.specs.DeskViews.{first_desk}
 use Rattle.scr_virtual.specs.VirtualViews.{blank_virtual}
 use Rattle.scr_memory.specs.Memories.{unknown}
 use Rattle.scr_keys.specs.Tables.{AreKeysOf, too_long}
+use Rattle.curses.specs.declared.opening.Opening.{Opening}
 use Rattle.curses.specs.declared.faults.OpenFault.{OpenFault}
 use Rattle.curses.specs.declared.faults.OpenFault.TheVariants.{KeyTooLong, NoMemory, Profile}
 use Rattle.curses.specs.ScreenStates.{ScreenState}
 use Rattle.curses.specs.Texts.{texts_or_none}
 
--- A screen just opened on the terminal of an entry: one blank window over the whole screen, a blank virtual screen,
+-- How a screen is opened if nothing is asked for: the terminal has ASCII alone.
+abbrev pub default_opening : Opening
+default_opening = record { charset = Ascii }
+
+-- A screen just opened on the terminal of an entry, as is asked for: one blank window over the whole screen, a blank virtual screen,
 -- nothing known of the terminal, nothing owed, the entry's keys with none pressed, and the opening and closing text,
 -- each empty if it is refused.
-pub record IsOpened (entry : Description) (size : Option Size) (screen : ScreenState) : Type 0 where
-  pub profile : IsAdmitted entry size screen.profile
+pub record IsOpenedAs (asked : Opening) (entry : Description) (size : Option Size) (screen : ScreenState) : Type 0 where
+  pub profile : IsAdmittedAs asked.charset entry size screen.profile
   pub desk : screen.desk ≡ first_desk screen.profile.rows screen.profile.columns
   pub virtual : screen.virtual ≡ blank_virtual screen.profile.rows screen.profile.columns
   pub memory : screen.memory ≡ unknown screen.profile.rows screen.profile.columns
@@ -30,6 +36,10 @@ pub record IsOpened (entry : Description) (size : Option Size) (screen : ScreenS
   pub waiting : screen.keys.waiting ≡ []
   pub opening : screen.opening ≡ texts_or_none entry SMCUP SMKX
   pub closing : screen.closing ≡ texts_or_none entry RMKX RMCUP
+
+-- The same if nothing is asked for.
+abbrev pub IsOpened : Description → Option Size → ScreenState → Type 0
+IsOpened entry size screen = IsOpenedAs default_opening entry size screen
 
 -- The entry gives no profile for a screen of this size; `fault` is the first reason.
 pub record IsUnsuited (entry : Description) (size : Option Size) (fault : ProfileFault) : Type 0 where

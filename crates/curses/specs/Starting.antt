@@ -35,7 +35,7 @@ closed_state profile state = record state { spot = At (profile.rows - 1) 0; pen 
 pub record ClosesPlain (profile : ProfileView) (state : TerminalState) : Type 0 where
   pub run : runs profile state (closing_ops profile) ≡ Some (closed_state profile state)
   pub beginnings : (k : ℕ) → IsDefined profile state (take k (closing_ops profile))
-  pub leads : IsEcma48 profile → Leads profile.rows profile.columns (negative_state state) (all_bytes profile (closing_ops profile)) (negative_state (closed_state profile state))
+  pub leads : IsEcma48 profile → Leads profile.charset profile.rows profile.columns (negative_state state) (all_bytes profile (closing_ops profile)) (negative_state (closed_state profile state))
 
 -- This holds from every state of a profile.
 abbrev pub AlwaysClosesPlain : ProfileView → Type 0

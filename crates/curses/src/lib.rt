@@ -14,6 +14,7 @@ mod updates;
 mod writers;
 
 pub use faults::{OpenFault, SendFault, Sent, UpdateFault};
+pub use opening::Opening;
 pub use screens::Screen;
 pub use starting::closing_laws;
 pub use texts::{closing_text, opening_text};
@@ -21,9 +22,9 @@ pub use writers::{Counted, Device, Output};
 
 // What a program names besides: windows, cells and keys, terminals, and the operations and errors of updates; and for a
 // test without a terminal the emulated one.
-pub use scr_cells::{Attrs, Cell, Look, NoMemory, Picture, Size};
-pub use scr_keys::{Key, KeyFault, names as keys};
+pub use scr_cells::{Attrs, Cell, Charset, Look, NoMemory, Picture, Size, is_character};
+pub use scr_keys::{Key, KeyFault, Typed, TypedItems, TypedReader, names as keys};
 pub use scr_term::{Op, Ops, ProfileFault, Spot};
 pub use scr_terminal::{EcmaScreen, Undefined};
-pub use scr_windows::{Added, Win, WinFault, WindowRef};
+pub use scr_windows::{Added, BOX, DOUBLE_BOX, ROUND_BOX, Win, WinFault, WindowRef};
 pub use ti_caps::{Bytes, CapFault, Entry, Kind, Slot, bundled};

@@ -1,11 +1,11 @@
 //! Opening a screen on a terminal. The definitions are in `specs/Opening.antt`.
 ghost use Rattle.std.specs.Prelude.{◌≡◌, ◌≤◌, [], IfErr, IfOk, IsErrOf, None, Some, length, vec_capacity};
 ghost use Rattle.curses.specs.Code.Openings.{IsReaderOf, first_screen};
-ghost use Rattle.curses.specs.Opening.{IsOpened, IsUnopened};
+ghost use Rattle.curses.specs.Opening.{IsOpened, IsOpenedAs, IsUnopened, default_opening};
 ghost use Rattle.curses.specs.ScreenStates.{HasRoom, HasTextRoom};
 ghost use Rattle.curses.specs.Texts.{texts_or_none};
 ghost use Rattle.ti_caps.specs.declared.slots.TheConstants.{RMCUP, RMKX, SMCUP, SMKX};
-ghost use Rattle.scr_term.specs.Operations.Admission.{IsAdmitted, IsSuitable};
+ghost use Rattle.scr_term.specs.Operations.Admission.{IsAdmittedAs, IsSuitable, refusal};
 ghost use Rattle.scr_windows.specs.DeskViews.{first_desk};
 ghost use Rattle.scr_virtual.specs.VirtualViews.{blank_virtual};
 ghost use Rattle.scr_memory.specs.Memories.{unknown};
@@ -13,7 +13,7 @@ ghost use Rattle.scr_memory.specs.Memories.{unknown};
 use crate::faults::OpenFault;
 use crate::screens::Screen;
 use crate::texts::texts_or_none;
-use scr_cells::{NoMemory, Size};
+use scr_cells::{Charset, NoMemory, Size};
 use scr_keys::{KeyFault, KeyReader, KeyTable};
 use scr_memory::{Memory, memory_runs};
 use scr_plan::up_to_date_laws;
@@ -22,6 +22,24 @@ use scr_virtual::Virtual;
 use scr_windows::Desk;
 use std::alloc::Global;
 use ti_caps::{Entry, slots};
+
+/// How a screen is opened.
+#[derive(Clone, Copy, Debug)]
+pub struct Opening {
+    /// The characters that the terminal is sent.
+    pub charset: Charset,
+}
+
+impl Opening {
+    /// What `Screen::open` opens a screen with: the terminal has ASCII alone.
+    pub fn new() -> Opening
+        ensures { result ≡ default_opening }
+    {
+        Opening {
+            charset: Charset::Ascii,
+        }
+    }
+}
 
 impl Screen {
     /// Opens a screen on the terminal of an entry, of this size, or of the entry's `lines` and `cols` if none is given.
@@ -40,8 +58,28 @@ impl Screen {
         ensures suitable { IfOk result (λ _. IsSuitable entry.now) }
         ensures memory { IsErrOf result OpenFault.NoMemory → IsSuitable entry.now }
     {
-        let profile = admitted(alloc, entry, size)?;
-        let keys = keys_of(alloc, entry, size, &profile)?;
+        Screen::open_as(alloc, entry, size, Opening::new())
+    }
+
+    /// Opens a screen as is asked for; `open` is it with what `Opening::new` gives. The rest, refusals included, is as
+    /// with `open`.
+    ///
+    /// With `Charset::Utf8` characters are sent in UTF-8, and the terminal has to show each of them in one column: some
+    /// terminals can be set to show characters of ambiguous width in two. With `Charset::Ascii` what stands for them is
+    /// sent.
+    pub fn open_as(
+        alloc: Global,
+        entry: &Entry,
+        size: Option<Size>,
+        opening: Opening,
+    ) -> Result<Screen, OpenFault>
+        ensures ok { IfOk result (IsOpenedAs opening entry.now size) }
+        ensures err { IfErr result (IsUnopened entry.now size) }
+        ensures suitable { IfOk result (λ _. IsSuitable entry.now) }
+        ensures memory { IsErrOf result OpenFault.NoMemory → IsSuitable entry.now }
+    {
+        let profile = admitted(alloc, entry, size, opening.charset)?;
+        let keys = keys_of(alloc, entry, size)?;
         let texts = texts_of(alloc, entry)?;
         let screen = Screen::on(alloc, profile, keys, texts)?;
         Ok(screen)
@@ -182,13 +220,8 @@ fn buffer_for(alloc: Global, profile: &Profile, texts: &Texts) -> Result<Vec<u8>
 }
 
 // A reader for the keys of an entry that has made a profile.
-fn keys_of(
-    alloc: Global,
-    entry: &Entry,
-    size: Option<Size>,
-    profile: &Profile,
-) -> Result<KeyReader, OpenFault>
-    requires { IsAdmitted entry.now size profile.now }
+fn keys_of(alloc: Global, entry: &Entry, size: Option<Size>) -> Result<KeyReader, OpenFault>
+    requires { refusal entry.now size ≡ None }
     ensures ok { IfOk result (IsReaderOf entry.now) }
     ensures err { IfErr result (IsUnopened entry.now size) }
 {
@@ -204,13 +237,18 @@ fn keys_of(
 }
 
 // The profile of an entry.
-fn admitted(alloc: Global, entry: &Entry, size: Option<Size>) -> Result<Profile, OpenFault>
-    ensures ok { IfOk result (IsAdmitted entry.now size) }
+fn admitted(
+    alloc: Global,
+    entry: &Entry,
+    size: Option<Size>,
+    charset: Charset,
+) -> Result<Profile, OpenFault>
+    ensures ok { IfOk result (IsAdmittedAs charset entry.now size) }
     ensures err { IfErr result (IsUnopened entry.now size) }
     ensures suitable { IfOk result (λ _. IsSuitable entry.now) }
     ensures memory { IsErrOf result OpenFault.NoMemory → IsSuitable entry.now }
 {
-    match Profile::admit(alloc, entry, size) {
+    match Profile::admit_as(alloc, entry, size, charset) {
         Ok(profile) => Ok(profile),
         Err(ProfileFault::NoMemory) => Err(OpenFault::NoMemory),
         Err(fault) => Err(OpenFault::Profile(fault)),
