@@ -156,7 +156,7 @@ moment_now acts profile opened now before begun taken owed picture well state ru
   showing = λ sent. record {
     nothing = nothing sent;
     shows = shows sent;
-    leads = λ none bundled. subst (λ text. Leads profile.rows profile.columns (negative_state opened) text (negative_state now))
+    leads = λ none bundled. subst (λ text. Leads profile.charset profile.rows profile.columns (negative_state opened) text (negative_state now))
         (sym (sym (append-nil taken) ∙ sym (ap (λ o. taken ++ o) (nothing sent)) ∙ bytes ∙ ap (λ b. b ++ all_bytes profile begun) none)) (acts profile bundled opened now state begun run);
   };
 }

@@ -1,11 +1,13 @@
 -- Calls as values: what each does to the windows, and its answer. These are the calls of X/Open Curses Issue 7 that
 -- `scr_windows` defines.
 use Rattle.std.specs.Prelude.{Bool, true, false, Result, Ok, Err, ◌≡◌, ◌⊎◌}
+use Rattle.std.specs.Str.{chars}
+use Rattle.std.specs.String.{string_bytes}
 use Rattle.scr_windows.specs.DeskViews.{DeskView}
 use Rattle.scr_windows.specs.declared.faults.WinFault.{WinFault}
 use Rattle.scr_windows.specs.declared.faults.WinFault.TheVariants.{NoMemory}
-use Rattle.scr_windows.specs.Calls.Adding.{add_byte_call, add_text_call, insert_byte_call, line_across_call, line_down_call}
-use Rattle.scr_windows.specs.Calls.Borders.{border_call}
+use Rattle.scr_windows.specs.Calls.Adding.{add_byte_call, add_character_call, add_text_call, add_str_call, insert_byte_call, insert_character_call, line_across_call, line_across_of_call, line_down_call, line_down_of_call}
+use Rattle.scr_windows.specs.Calls.Borders.{border_call, border_of_call}
 use Rattle.scr_windows.specs.Calls.Copying.{copy_call, overlay_call}
 use Rattle.scr_windows.specs.Calls.Erasing.{clear_to_eol_call, clear_to_bottom_call, erase_call, clear_call}
 use Rattle.scr_windows.specs.Calls.Making.{new_window_call, new_pad_call}
@@ -21,7 +23,7 @@ use Rattle.scr_windows.specs.Calls.Touching.{touch_all_call, touch_lines_call}
 use Rattle.screen_sessions.specs.declared.answers.Answer.{Answer}
 use Rattle.screen_sessions.specs.declared.answers.Answer.TheVariants as answers
 use Rattle.screen_sessions.specs.declared.calls.Call.{Call}
-use Rattle.screen_sessions.specs.declared.calls.Call.TheVariants.{NewWindow, NewPad, Derive, Sub, SubPad, ResizeWindow, Copy, Overlay, Overwrite, Delete, MoveWindow, MoveDerived, TouchWindow, Untouch, TouchLines, SyncUp, SyncDown, AddByte, AddText, InsertByte, LineAcross, LineDown, Border, ClearToEol, ClearToBottom, Erase, Clear, DeleteByte, InsertDeleteLines, Scroll, ChangeBackground, MoveCursor, SetRegion, ScrollOk, ClearOk, LeaveOk, AttrOn, AttrOff, AttrSet, ColorSet, SetBackground, CellAt, Cursor, Size, Origin, LineTouched, WindowTouched}
+use Rattle.screen_sessions.specs.declared.calls.Call.TheVariants.{NewWindow, NewPad, Derive, Sub, SubPad, ResizeWindow, Copy, Overlay, Overwrite, Delete, MoveWindow, MoveDerived, TouchWindow, Untouch, TouchLines, SyncUp, SyncDown, AddByte, AddText, InsertByte, LineAcross, LineDown, Border, AddCharacter, AddStr, InsertCharacter, LineAcrossOf, LineDownOf, BorderOf, ClearToEol, ClearToBottom, Erase, Clear, DeleteByte, InsertDeleteLines, Scroll, ChangeBackground, MoveCursor, SetRegion, ScrollOk, ClearOk, LeaveOk, AttrOn, AttrOff, AttrSet, ColorSet, SetBackground, CellAt, Cursor, Size, Origin, LineTouched, WindowTouched}
 use Rattle.curses.specs.ScreenStates.{ScreenState}
 use Rattle.curses.specs.Forwarding.{OnDesk}
 
@@ -81,6 +83,16 @@ erasing desk (ChangeBackground win cell) = done (change_background_call desk win
 erasing desk call = setting desk call
 
 -- Calls that write characters.
+abbrev pub drawing : DeskView → Call → DeskView × Answer
+drawing desk (AddCharacter win character attrs) = told (λ all. answers.Added all) (add_character_call desk win.0 character attrs)
+drawing desk (AddStr win text) = told (λ all. answers.Added all) (add_str_call desk win.0 (chars (string_bytes text)))
+drawing desk (InsertCharacter win character attrs) = done (insert_character_call desk win.0 character attrs)
+drawing desk (LineAcrossOf win character n) = done (line_across_of_call desk win.0 character n)
+drawing desk (LineDownOf win character n) = done (line_down_of_call desk win.0 character n)
+drawing desk (BorderOf win characters) = done (border_of_call desk win.0 characters)
+drawing desk call = erasing desk call
+
+-- Calls that write bytes of ASCII.
 abbrev pub writing : DeskView → Call → DeskView × Answer
 writing desk (AddByte win byte attrs) = told (λ all. answers.Added all) (add_byte_call desk win.0 byte attrs)
 writing desk (AddText win text) = told (λ all. answers.Added all) (add_text_call desk win.0 text)
@@ -88,7 +100,7 @@ writing desk (InsertByte win byte attrs) = done (insert_byte_call desk win.0 byt
 writing desk (LineAcross win byte n) = done (line_across_call desk win.0 byte n)
 writing desk (LineDown win byte n) = done (line_down_call desk win.0 byte n)
 writing desk (Border win bytes) = done (border_call desk win.0 bytes)
-writing desk call = erasing desk call
+writing desk call = drawing desk call
 
 -- Calls that delete or move a window, or that touch, untouch or synchronize lines.
 abbrev pub placing : DeskView → Call → DeskView × Answer

@@ -7,7 +7,7 @@ use Rattle.scr_cells.specs.declared.sizes.Size.{Size}
 use Rattle.ti_caps.specs.Description.{Description}
 use Rattle.scr_term.specs.declared.operations.operation.Op.{Op}
 use Rattle.scr_term.specs.Ecma.Meanings.{Leads}
-use Rattle.scr_term.specs.Operations.Admission.{IsAdmitted, IsEcma48}
+use Rattle.scr_term.specs.Operations.Admission.{IsAdmittedAs, IsEcma48}
 use Rattle.scr_term.specs.Operations.Painted.{Shows}
 use Rattle.scr_term.specs.Operations.Profiles.{ProfileView, abilities}
 use Rattle.scr_term.specs.Operations.States.{TerminalState, IsState, negative_state}
@@ -28,6 +28,8 @@ use Rattle.screen_sessions.specs.declared.answers.Answer.{Answer}
 use Rattle.screen_sessions.specs.declared.answers.Answer.TheVariants.{Failed, Nothing, Refused, Sent}
 use Rattle.screen_sessions.specs.declared.calls.Call.{Call}
 use Rattle.screen_sessions.specs.declared.calls.Call.TheVariants.{Doupdate, Noutrefresh, PadNoutrefresh, RedrawLines, RedrawWindow, SetPair, SetPairOf}
+use Rattle.curses.specs.Opening.{default_opening}
+use Rattle.curses.specs.declared.opening.Opening.{Opening}
 use Rattle.curses.specs.declared.faults.UpdateFault.TheVariants as update_faults
 use Rattle.curses.specs.declared.faults.UpdateFault.TheVariants.{Flush, Write}
 use Rattle.screen_sessions.specs.declared.sessions.Report.{Report}
@@ -221,7 +223,7 @@ counted_in kind (answer ∷ answers) count = counted_in kind answers (counted (k
 pub record IsShowing (profile : ProfileView) (opened now : TerminalState) (before owed taken : List ℕ) (picture : PictureView) : Type 0 where
   pub nothing : owed ≡ []
   pub shows : Shows (abilities profile) now picture
-  pub leads : before ≡ [] → IsEcma48 profile → Leads profile.rows profile.columns (negative_state opened) taken (negative_state now)
+  pub leads : before ≡ [] → IsEcma48 profile → Leads profile.charset profile.rows profile.columns (negative_state opened) taken (negative_state now)
 
 -- What holds right after a call, if the terminal was in state `opened` at the start or, where the bytes `before` were
 -- owed then, is in it after these. The operations begun so far are all defined and lead to the state `now`. The bytes
@@ -332,10 +334,11 @@ pub record AreMade (old new : ScreenState) (calls : List Call) (before after : W
   pub agrees : (n : ℕ) (opened now : TerminalState) → n ≤ length report.answers → MayBegin old.profile (beginning_of old) calls report.answers n opened → runs old.profile opened (begun_in report.answers) ≡ Some now
       → Agrees (abilities old.profile) new.memory now
 
--- The report of a session on a screen opened on this entry; `old` and `new` are the writer before and after.
-pub record IsReport (entry : Description) (size : Option Size) (calls : List Call) (old new : WriterView) (report : Report) : Type 0 where
+-- The report of a session on a screen opened on this entry, as is asked for; `old` and `new` are the writer before and
+-- after.
+pub record IsReportAs (asked : Opening) (entry : Description) (size : Option Size) (calls : List Call) (old new : WriterView) (report : Report) : Type 0 where
   pub profile : ProfileView
-  pub admitted : IsAdmitted entry size profile
+  pub admitted : IsAdmittedAs asked.charset entry size profile
   pub keys : too_long entry ≡ None
   pub taken : List ℕ
   pub writer : Appends old.taken new.taken taken
@@ -345,6 +348,10 @@ pub record IsReport (entry : Description) (size : Option Size) (calls : List Cal
   pub last : report.last_ok ≡ last_ok_after false report.answers
   pub puts : new.failed_puts ≡ counted_in is_cut report.answers old.failed_puts
   pub finishes : new.failed_finishes ≡ counted_in is_unfinished report.answers old.failed_finishes
+
+-- The same if nothing is asked for.
+abbrev pub IsReport : Description → Option Size → List Call → WriterView → WriterView → Report → Type 0
+IsReport entry size calls old new report = IsReportAs default_opening entry size calls old new report
 
 -- ---- rows that others wrote on
 

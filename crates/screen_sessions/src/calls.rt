@@ -1,7 +1,7 @@
 //! Calls as values: a session is given a list of them, and each is made by the method of its name. The definitions are in
 //! `specs/Calls.antt`.
 ghost use Rattle.std.specs.Prelude.{◌≡◌, true};
-ghost use Rattle.screen_sessions.specs.Calls.{OnDeskOrRefused, erasing, is_told, placing, reading, setting, writing};
+ghost use Rattle.screen_sessions.specs.Calls.{OnDeskOrRefused, drawing, erasing, is_told, placing, reading, setting, writing};
 ghost use Rattle.curses.specs.Forwarding.{OnDesk};
 
 use crate::answers::{
@@ -63,6 +63,18 @@ pub enum Call {
     LineDown(Win, u8, u32),
     /// [`Screen::border`](curses::Screen::border).
     Border(Win, [u8; 8]),
+    /// [`Screen::add_character`](curses::Screen::add_character).
+    AddCharacter(Win, char, Attrs),
+    /// [`Screen::add_str`](curses::Screen::add_str).
+    AddStr(Win, String),
+    /// [`Screen::insert_character`](curses::Screen::insert_character).
+    InsertCharacter(Win, char, Attrs),
+    /// [`Screen::line_across_of`](curses::Screen::line_across_of).
+    LineAcrossOf(Win, char, u32),
+    /// [`Screen::line_down_of`](curses::Screen::line_down_of).
+    LineDownOf(Win, char, u32),
+    /// [`Screen::border_of`](curses::Screen::border_of).
+    BorderOf(Win, [char; 8]),
     /// [`Screen::clear_to_eol`](curses::Screen::clear_to_eol).
     ClearToEol(Win),
     /// [`Screen::clear_to_bottom`](curses::Screen::clear_to_bottom).
@@ -183,7 +195,7 @@ fn make_placing(screen: &mut Screen, call: &Call) -> Answer
     }
 }
 
-// Calls that write bytes.
+// Calls that write bytes of ASCII.
 fn make_writing(screen: &mut Screen, call: &Call) -> Answer
     ensures made { OnDesk screen.old screen.new result (writing screen.old.desk call.now) }
     ensures told { is_told result ≡ true }
@@ -195,6 +207,30 @@ fn make_writing(screen: &mut Screen, call: &Call) -> Answer
         Call::LineAcross(win, byte, n) => done_answer(screen.line_across(*win, *byte, *n)),
         Call::LineDown(win, byte, n) => done_answer(screen.line_down(*win, *byte, *n)),
         Call::Border(win, bytes) => done_answer(screen.border(*win, *bytes)),
+        _ => make_drawing(screen, call),
+    }
+}
+
+// Calls that write characters.
+fn make_drawing(screen: &mut Screen, call: &Call) -> Answer
+    ensures made { OnDesk screen.old screen.new result (drawing screen.old.desk call.now) }
+    ensures told { is_told result ≡ true }
+{
+    match call {
+        Call::AddCharacter(win, character, attrs) => {
+            added_answer(screen.add_character(*win, *character, *attrs))
+        }
+        Call::AddStr(win, text) => added_answer(screen.add_str(*win, text.as_str())),
+        Call::InsertCharacter(win, character, attrs) => {
+            done_answer(screen.insert_character(*win, *character, *attrs))
+        }
+        Call::LineAcrossOf(win, character, n) => {
+            done_answer(screen.line_across_of(*win, *character, *n))
+        }
+        Call::LineDownOf(win, character, n) => {
+            done_answer(screen.line_down_of(*win, *character, *n))
+        }
+        Call::BorderOf(win, characters) => done_answer(screen.border_of(*win, *characters)),
         _ => make_erasing(screen, call),
     }
 }
