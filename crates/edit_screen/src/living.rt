@@ -65,6 +65,17 @@ impl<'a> Session<'a> {
         }
         true
     }
+
+    // Does what the bytes of a character ask for, one by one.
+    fn answer_character(&mut self, character: char) -> bool {
+        let mut bytes = [0; 4];
+        for byte in character.encode_utf8(&mut bytes).bytes() {
+            if !self.answer_key(Key::Byte(byte)) {
+                return false;
+            }
+        }
+        true
+    }
 }
 
 impl Program for Session<'_> {
@@ -83,6 +94,7 @@ impl Program for Session<'_> {
     fn answer(&mut self, event: Event) -> bool {
         match event {
             Event::Key(key) => return self.answer_key(key),
+            Event::Character(character) => return self.answer_character(character),
             Event::Resized => self.is_new = true,
             Event::Idle => self.pass_time(),
             Event::Continued => {}

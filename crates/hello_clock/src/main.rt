@@ -49,7 +49,7 @@ impl Program for Clock<'_> {
         if event == Event::Resized {
             self.window = None;
         }
-        !matches!(event, Event::Key(_))
+        !matches!(event, Event::Key(_) | Event::Character(_))
     }
 
     fn shows_cursor(&self) -> bool {

@@ -22,7 +22,7 @@ impl Program for Greeting {
     }
 
     fn answer(&mut self, event: Event) -> bool {
-        !matches!(event, Event::Key(_))
+        !matches!(event, Event::Key(_) | Event::Character(_))
     }
 }
 

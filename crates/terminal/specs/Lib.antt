@@ -1,4 +1,5 @@
 pub mod Cursors
+pub mod Events
 pub mod Inputs
 pub mod Lines
 pub mod Sizes

@@ -1,12 +1,17 @@
 //! What a program on a terminal waits for.
+ghost use Rattle.std.specs.Prelude.{◌≡◌};
+ghost use Rattle.terminal.specs.Events.{event_of};
 
-use curses::Key;
+use curses::{Key, Typed};
 
 /// What a program on a terminal waits for.
 #[derive(Clone, Copy, Debug, PartialEq, Eq)]
 pub enum Event {
-    /// A key was pressed.
+    /// A key was pressed, or a byte came that belongs to no key and no character beyond ASCII.
     Key(Key),
+    /// A character beyond ASCII was typed: the bytes of its UTF-8 encoding came. Those of ASCII are keys, as
+    /// `Key::Byte(b'a')`.
+    Character(char),
     /// The terminal has a new size, and the screen is a new one of that size, blank and with its first window alone.
     Resized,
     /// The program was suspended, by `^Z` or by a stop from elsewhere, or could not be: nothing is known of what the terminal shows, so update it.
@@ -15,4 +20,15 @@ pub enum Event {
     Ended,
     /// Nothing came in the time that `event_within` was given.
     Idle,
+}
+
+/// What was typed, as an event.
+pub(crate) fn event_of(typed: Typed) -> Event
+    ensures { result ≡ event_of typed }
+{
+    match typed {
+        Typed::Character(character) => Event::Character(character),
+        Typed::Key(slot) => Event::Key(Key::Slot(slot)),
+        Typed::Byte(byte) => Event::Key(Key::Byte(byte)),
+    }
 }

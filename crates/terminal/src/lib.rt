@@ -10,12 +10,13 @@ mod events;
 mod faults;
 mod folders;
 mod input;
+mod keyboards;
 mod lines;
 mod outputs;
 mod programs;
+mod received;
 mod screens;
 mod sizes;
-mod typed;
 
 pub use events::Event;
 pub use faults::TerminalFault;

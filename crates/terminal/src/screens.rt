@@ -1,13 +1,14 @@
 //! The screen of the terminal that a program runs on.
 
 use crate::cursors::Cursor;
-use crate::events::Event;
+use crate::events::{Event, event_of};
 use crate::faults::TerminalFault;
 use crate::input::Input;
+use crate::keyboards::Keyboard;
 use crate::lines::TerminalLine;
 use crate::outputs::TerminalOutput;
-use crate::typed::Typed;
-use curses::{Device, Entry, Key, OpenFault, Screen, Sent, Size, keys};
+use crate::received::Received;
+use curses::{Device, Entry, Key, OpenFault, Screen, Sent, Size, Typed, keys};
 use std::alloc::Global;
 use std::env;
 use std::env::VarError;
@@ -17,16 +18,17 @@ use ti_caps::slots;
 use ti_database::find;
 
 // The key that asks for suspension: `^Z`, as at a shell's own line.
-const SUSPEND: Key = Key::Byte(26);
+const SUSPEND: Event = Event::Key(Key::Byte(26));
 
 /// The screen of the terminal that a program runs on, from its opening to its close.
 #[derive(Drop)]
 pub struct TerminalScreen {
     entry: Entry,
     line: TerminalLine,
-    typed: Typed,
-    // A key that `has_input` found.
-    waiting: Option<Key>,
+    received: Received,
+    keyboard: Keyboard,
+    // What `has_input` found to be typed.
+    waiting: Option<Typed>,
     screen: Screen,
     out: Device<BufWriter<TerminalOutput>>,
     // Whether what was sent last went out whole, so that nothing is owed.
@@ -69,14 +71,15 @@ impl TerminalScreen {
         if !line.is_ready(rt) {
             return Err(TerminalFault::NotRaw);
         }
-        let typed = Typed::new(rt.alloc())?;
+        let received = Received::new(rt.alloc())?;
         let cursor = Cursor::new(rt.alloc(), &entry)?;
         let out = device(rt.alloc(), line.output(rt))?;
         let screen = Screen::open(rt.alloc(), &entry, line.size())?;
         Ok(started(TerminalScreen {
             entry,
             line,
-            typed,
+            received,
+            keyboard: Keyboard::new(),
             waiting: None,
             screen,
             out,
@@ -117,7 +120,7 @@ impl TerminalScreen {
         Ok(can)
     }
 
-    /// Waits for a key, a resize, or the end. `^Z`, or a key of that name, is not given: it suspends the program until
+    /// Waits for a key or a character, a resize, or the end. `^Z`, or a key of that name, is not given: it suspends the program until
     /// its user continues it, as a stop from elsewhere does.
     pub fn event(&mut self, rt: &HostRuntime) -> Result<Event, TerminalFault> {
         for _ in 0..u64::MAX {
@@ -152,8 +155,9 @@ impl TerminalScreen {
         Ok(Event::Ended)
     }
 
-    /// Like `event`, but gives the next byte of the keyboard as it is, `^Z` and the first byte of a key's text too, unless
-    /// a key waits already. A program calls it to have any byte typed, as after `^V` in an editor.
+    /// Like `event`, but gives the next byte of the keyboard as it is, `^Z` and the first byte of a key's text or of a
+    /// character too, unless something was typed before it. A program calls it to have any byte typed, as after `^V` in
+    /// an editor.
     pub fn byte_event(&mut self, rt: &HostRuntime) -> Result<Event, TerminalFault> {
         for _ in 0..u64::MAX {
             if let Some(event) = self.byte_turn(rt)? {
@@ -167,9 +171,9 @@ impl TerminalScreen {
     /// only where nothing waits makes one update for what is pasted, and not one for each key.
     pub fn has_input(&mut self) -> bool {
         if self.waiting.is_none() {
-            self.waiting = self.screen.key();
+            self.waiting = self.keyboard.next(&mut self.screen);
         }
-        self.waiting.is_some() || !self.typed.is_empty()
+        self.waiting.is_some() || !self.received.is_empty()
     }
 
     /// Gives the terminal back: without attributes, with the cursor shown and on its last line, and out of the modes of
@@ -222,12 +226,13 @@ impl TerminalScreen {
         }
     }
 
-    // What a key that was pressed means.
-    fn pressed(&mut self, rt: &HostRuntime, key: Key) -> Result<Event, TerminalFault> {
-        if key == SUSPEND || key == keys::SUSPEND {
+    // What it means that this was typed.
+    fn pressed(&mut self, rt: &HostRuntime, typed: Typed) -> Result<Event, TerminalFault> {
+        let event = event_of(typed);
+        if event == SUSPEND || event == Event::Key(keys::SUSPEND) {
             self.suspend(rt)
         } else {
-            Ok(Event::Key(key))
+            Ok(event)
         }
     }
 
@@ -248,7 +253,7 @@ impl TerminalScreen {
         if let Some(event) = self.typed_event(rt)? {
             return Ok(Some(event));
         }
-        match self.typed.read(rt, &mut self.line) {
+        match self.received.read(rt, &mut self.line) {
             Input::Bytes(_) => self.typed_event(rt),
             other => self.other_event(rt, other),
         }
@@ -256,23 +261,23 @@ impl TerminalScreen {
 
     // Like `turn`, with the next byte in place of a key.
     fn byte_turn(&mut self, rt: &HostRuntime) -> Result<Option<Event>, TerminalFault> {
-        if let Some(key) = self.waiting_key() {
-            return Ok(Some(Event::Key(key)));
+        if let Some(typed) = self.waiting_typed() {
+            return Ok(Some(event_of(typed)));
         }
-        if let Some(byte) = self.typed.next() {
+        if let Some(byte) = self.received.next() {
             return Ok(Some(Event::Key(Key::Byte(byte))));
         }
-        match self.typed.read(rt, &mut self.line) {
+        match self.received.read(rt, &mut self.line) {
             Input::Bytes(_) => Ok(None),
             other => self.other_event(rt, other),
         }
     }
 
-    // A key that was made of bytes already.
-    fn waiting_key(&mut self) -> Option<Key> {
+    // What was typed by bytes that were read, the beginning of a character too.
+    fn waiting_typed(&mut self) -> Option<Typed> {
         match self.waiting.take() {
-            Some(key) => Some(key),
-            None => self.screen.key(),
+            Some(typed) => Some(typed),
+            None => self.keyboard.next_at_once(&mut self.screen),
         }
     }
 
@@ -291,22 +296,25 @@ impl TerminalScreen {
         }
     }
 
-    // What the next key means, if one is there.
+    // What it means that something is typed next, if that is there.
     fn typed_event(&mut self, rt: &HostRuntime) -> Result<Option<Event>, TerminalFault> {
-        match self.typed_key()? {
-            Some(key) => Ok(Some(self.pressed(rt, key)?)),
+        match self.next_typed()? {
+            Some(typed) => Ok(Some(self.pressed(rt, typed)?)),
             None => Ok(None),
         }
     }
 
-    // The next key, if it is there. A byte goes to the queue of keys only where that is empty, so there is room for
-    // what comes of it.
-    fn typed_key(&mut self) -> Result<Option<Key>, TerminalFault> {
+    // What is typed next, if it is there. A byte goes to the queue of keys only where that is empty, so there is room
+    // for what comes of it.
+    fn next_typed(&mut self) -> Result<Option<Typed>, TerminalFault> {
+        if let Some(typed) = self.waiting.take() {
+            return Ok(Some(typed));
+        }
         for _ in 0..usize::MAX {
-            if let Some(key) = self.waiting_key() {
-                return Ok(Some(key));
+            if let Some(typed) = self.keyboard.next(&mut self.screen) {
+                return Ok(Some(typed));
             }
-            let Some(byte) = self.typed.next() else {
+            let Some(byte) = self.received.next() else {
                 break;
             };
             if let Err(fault) = self.screen.key_byte(byte) {
@@ -322,8 +330,8 @@ impl TerminalScreen {
         if let Err(fault) = self.screen.key_idle() {
             return Err(TerminalFault::Keys(fault));
         }
-        if let Some(key) = self.screen.key() {
-            return Ok(Some(self.pressed(rt, key)?));
+        if let Some(typed) = self.keyboard.next_at_once(&mut self.screen) {
+            return Ok(Some(self.pressed(rt, typed)?));
         }
         self.follow_size(rt.alloc())
     }

@@ -14,14 +14,14 @@ const PIECE: usize = 4096;
 
 /// What was read of the keyboard and waits to be used.
 #[derive(Drop)]
-pub(crate) struct Typed {
+pub(crate) struct Received {
     piece: Vec<u8>,
     // How many of its bytes were used, and how many were read.
     used: usize,
     count: usize,
 }
 
-impl Model for Typed {
+impl Model for Received {
     ghost use Rattle.std.specs.Prelude.{◌≤◌, ℕ, List, drop, length, take};
 
     ghost Value = { List ℕ };
@@ -31,11 +31,11 @@ impl Model for Typed {
     ghost invariant = { λ t. record { used : t.used ≤ t.count; count : t.count ≤ length t.piece.items } };
 }
 
-impl Typed {
+impl Received {
     /// Nothing, with room for a piece. Fails only when memory runs out.
-    pub(crate) fn new(alloc: Global) -> Result<Typed, NoMemory> {
+    pub(crate) fn new(alloc: Global) -> Result<Received, NoMemory> {
         match piece(alloc) {
-            Ok(piece) => Ok(Typed {
+            Ok(piece) => Ok(Received {
                 piece,
                 used: 0,
                 count: 0,
