@@ -111,7 +111,7 @@ fn text_of(alloc: Global, looks: &[Look]) -> Result<String> {
             text.push('*')?;
             reverse = !reverse;
         }
-        text.push(char::from(look.byte()))?;
+        text.push(look.character())?;
     }
     Ok(text)
 }

@@ -3,6 +3,8 @@ use Rattle.std.proofs.Common.{◌≡◌, ℕ, Bool, true, false, refl, sym, ◌�
 use Rattle.std.specs.List.{flat_map}
 use Rattle.std.proofs.lemmas.List.{append-nil}
 use Rattle.std.proofs.lemmas.List.Concat.{flat_map-append}
+use Rattle.scr_term.specs.Operations.Abilities.{full_abilities}
+use Rattle.scr_cells.specs.declared.charsets.Charset.TheVariants.{Ascii}
 use Rattle.scr_cells.specs.LookViews.{negative_grid}
 use Rattle.scr_cells.specs.PictureViews.{PictureView}
 use Rattle.scr_term.specs.declared.operations.operation.Op.{Op}
@@ -188,10 +190,10 @@ pub record IsAfter (profile : ProfileView) (memory : MemoryView) (picture : Pict
   pub shows : ShowsNegative (abilities_for picture) new.state picture
   pub ready : IsTerminalFor profile memory new
 
-negative_shown : Ecma48Laws → (profile : ProfileView) (picture : PictureView) (state : TerminalState) → IsEcma48 profile → Shows (abilities profile) state picture
+negative_shown : Ecma48Laws → (profile : ProfileView) (picture : PictureView) (state : TerminalState) → IsEcma48 profile → profile.charset ≡ Ascii → Shows (abilities profile) state picture
     → ShowsNegative (abilities_for picture) (negative_state state) picture
-negative_shown laws profile picture state ecma shows =
-    let full = subst (λ a. Shows a state picture) (ap abilities (laws.made profile ecma) ∙ laws.can_show profile.rows profile.columns) shows in
+negative_shown laws profile picture state ecma ascii shows =
+    let full = subst (λ a. Shows a state picture) (ap abilities (laws.made profile ecma) ∙ laws.can_show profile.charset profile.rows profile.columns ∙ ap (λ c. full_abilities c profile.rows profile.columns) ascii) shows in
     record { grid = ap negative_grid full.grid; spot = full.spot }
 
 pub after_feeding : Ecma48Laws → BytesActAsTheirOperations → ScreensFollowTexts → (profile : ProfileView) → IsEcma48 profile → (before after : MemoryView) (virtual : VirtualView) (picture : PictureView)
@@ -201,18 +203,21 @@ after_feeding laws acts follow profile ecma before after virtual picture old new
     let update : IsUpdateOf profile before after virtual bytes = sending.sent in
     let shown : RunsToShow profile terminal.state update.ops picture =
     subst (RunsToShow profile terminal.state update.ops) sending.shown (update.plan.shows terminal.state (record { state = terminal.agrees.is_state; agrees = λ _. terminal.agrees })) in
-    let leads : Leads old.rows old.columns old.state bytes (negative_state shown.new) =
-    subst (λ r. Leads r old.columns old.state bytes (negative_state shown.new)) (sym terminal.rows)
-    (subst (λ c. Leads profile.rows c old.state bytes (negative_state shown.new)) (sym terminal.columns)
-    (subst (λ s. Leads profile.rows profile.columns s bytes (negative_state shown.new)) (sym terminal.negative)
-    (subst (λ b. Leads profile.rows profile.columns (negative_state terminal.state) b (negative_state shown.new)) (sym update.bytes_are)
-    (acts profile ecma terminal.state shown.new terminal.agrees.is_state update.ops shown.run)))) in
+    let leads : Leads old.charset old.rows old.columns old.state bytes (negative_state shown.new) =
+    subst (λ s. Leads s old.rows old.columns old.state bytes (negative_state shown.new)) (sym terminal.charset)
+    (subst (λ r. Leads profile.charset r old.columns old.state bytes (negative_state shown.new)) (sym terminal.rows)
+    (subst (λ c. Leads profile.charset profile.rows c old.state bytes (negative_state shown.new)) (sym terminal.columns)
+    (subst (λ s. Leads profile.charset profile.rows profile.columns s bytes (negative_state shown.new)) (sym terminal.negative)
+    (subst (λ b. Leads profile.charset profile.rows profile.columns (negative_state terminal.state) b (negative_state shown.new)) (sym update.bytes_are)
+    (acts profile ecma terminal.state shown.new terminal.agrees.is_state update.ops shown.run))))) in
     let same : new ≡ record old { state = negative_state shown.new } =
     follow old new bytes (negative_state shown.new) terminal.valid terminal.defined terminal.nothing_waits leads fed in
     record {
-      shows = subst (λ s. ShowsNegative (abilities_for picture) s picture) (sym (ap (λ s. s.state) same)) (negative_shown laws profile picture shown.new ecma shown.shows);
+      shows = subst (λ s. ShowsNegative (abilities_for picture) s picture) (sym (ap (λ s. s.state) same)) (negative_shown laws profile picture shown.new ecma terminal.ascii shown.shows);
       ready = record {
         rows = ap (λ s. s.rows) same ∙ terminal.rows;
+        charset = ap (λ s. s.charset) same ∙ terminal.charset;
+        ascii = terminal.ascii;
         columns = ap (λ s. s.columns) same ∙ terminal.columns;
         valid = valid;
         state = shown.new;
@@ -238,6 +243,8 @@ pub still_terminal : (profile : ProfileView) (old new : MemoryView) (screen : Sc
 still_terminal profile old new screen agrees terminal = record {
   rows = terminal.rows;
   columns = terminal.columns;
+  charset = terminal.charset;
+  ascii = terminal.ascii;
   valid = terminal.valid;
   state = terminal.state;
   agrees = agrees.still terminal.state terminal.agrees;

@@ -4,6 +4,7 @@ use Rattle.std.specs.Io.KnownBytes.{Appends, Keeps}
 use Rattle.std.specs.Option.{ForSome}
 use Rattle.std.proofs.lemmas.Bool.Decides.{nat_tests}
 use Rattle.std.proofs.lemmas.List.{append-nil}
+use Rattle.scr_cells.specs.declared.charsets.Charset.TheVariants.{Ascii}
 use Rattle.scr_term.specs.Operations.Ecma48.{ecma48_profile}
 use Rattle.scr_memory.specs.Memories.{MemoryView}
 use Rattle.scr_virtual.specs.VirtualViews.{VirtualView}
@@ -51,7 +52,7 @@ opening_writes raw line text command stage e is none = record {
   left = refl;
   same = refl;
   ready = record { screen = is.ready.screen; terminal = λ fed. is.ready.terminal refl };
-  profile = is.profile ∙ ap (λ c. ecma48_profile (size_in c).0 (size_in c).1) (sym e);
+  profile = is.profile ∙ ap (λ c. ecma48_profile Ascii (size_in c).0 (size_in c).1) (sym e);
   written = subst (λ t. IsOutputOfLines raw stage.screen.profile None (Some stage) [] t) (sym none)
       (output_none raw stage.screen.profile (MayBeIn stage.screen.profile None) (MayBeIn stage.screen.profile (Some stage)) (memory_in stage.screen.profile None)
       (memory_in stage.screen.profile (Some stage)) is.memory is.agrees);
@@ -198,7 +199,7 @@ story_ends n stage rest line after e bad =
 -- the profile is that of the script's size
 profile_after : (script rest line after : List ℕ) (old : Option Playing) → (old ≡ None → rest ≡ script) → ForSome old (λ s. s.screen.profile ≡ profile_of script)
     → lines_of rest ≡ line ∷ lines_of after → profile_then old line ≡ profile_of script
-profile_after script rest line after None first is e = ap (λ lines. ecma48_profile (size_on lines).0 (size_on lines).1) (sym e ∙ ap lines_of (first refl))
+profile_after script rest line after None first is e = ap (λ lines. ecma48_profile Ascii (size_on lines).0 (size_on lines).1) (sym e ∙ ap lines_of (first refl))
 profile_after script rest line after (Some stage) first is e = is stage refl
 
 -- what is written so far is an output of what happened so far, and that and what the rest tells are the script's story

@@ -2,6 +2,8 @@
 use Rattle.std.proofs.Common.{◌≡◌, ℕ, zero, suc, ◌<◌, ◌≤◌, ◌&&◌, nat_le, Bool, true, refl, sym, ◌∙◌, ap, subst, arith, [], Option, Some, None, if◌then◌else◌}
 use Rattle.std.proofs.lemmas.Bool.Decides.{nat_tests}
 use Rattle.std.proofs.lemmas.List.FromFn.{get_or-map-range_with_len}
+use Rattle.scr_term.specs.Operations.Bundled.{BundledIsEcma48}
+use Rattle.scr_cells.specs.declared.charsets.Charset.TheVariants.{Ascii}
 use Rattle.scr_cells.specs.PictureViews.{IsSize}
 use Rattle.scr_cells.specs.declared.sizes.Size.{Size}
 use Rattle.ti_caps.specs.Bundled.{IsBundled, bundled_texts, listed}
@@ -49,16 +51,9 @@ columns_are : (entry : Description) (size : Size) (profile : ProfileView) → Is
 unfolding admitted
 columns_are entry size profile is = ap {A = ProfileView} (λ p. p.columns) is.made
 
-ecma48_is : (entry : Description) (size : Size) → IsBundled entry → (profile : ProfileView) → IsAdmitted entry (Some size) profile → IsEcma48 profile
-ecma48_is entry size bundled profile is =
-    let rows = sym (rows_are entry size profile is) in
-    let columns = sym (columns_are entry size profile is) in
-    record {
-      size = subst (λ n. IsSize n profile.columns) rows (subst (IsSize size.rows) columns size.in_range);
-      entry = entry;
-      bundled = bundled;
-      made = is.made ∙ ap (λ n. admitted entry n size.columns) rows ∙ ap (admitted entry profile.rows) columns;
-    }
+ascii_is : (entry : Description) (size : Size) (profile : ProfileView) → IsAdmitted entry (Some size) profile → profile.charset ≡ Ascii
+unfolding admitted
+ascii_is entry size profile is = ap {A = ProfileView} (λ p. p.charset) is.made
 
 -- ---- a blank stage
 
@@ -68,12 +63,14 @@ agrees_at_first : Ecma48Laws → MemoryRuns → (profile : ProfileView) (memory 
 agrees_at_first laws memories profile memory ecma is state valid =
     subst (λ m. Agrees (abilities profile) m state) (sym is) (memories.at_first profile (laws.is_profile profile ecma) state valid)
 
-blank_terminal : Ecma48Laws → BlankLaws → MemoryRuns → (rows columns : ℕ) (profile : ProfileView) (memory : MemoryView) (terminal : ScreenView) → IsEcma48 profile
-    → memory ≡ unknown profile.rows profile.columns → profile.rows ≡ rows → profile.columns ≡ columns → terminal ≡ blank_screen rows columns → IsScreen terminal
+blank_terminal : Ecma48Laws → BlankLaws → MemoryRuns → (rows columns : ℕ) (profile : ProfileView) (memory : MemoryView) (terminal : ScreenView) → IsEcma48 profile → profile.charset ≡ Ascii
+    → memory ≡ unknown profile.rows profile.columns → profile.rows ≡ rows → profile.columns ≡ columns → terminal ≡ blank_screen Ascii rows columns → IsScreen terminal
     → IsTerminalFor profile memory terminal
-blank_terminal laws blanks memories rows columns profile memory terminal ecma nothing r c is valid = record {
+blank_terminal laws blanks memories rows columns profile memory terminal ecma ascii nothing r c is valid = record {
   rows = ap (λ t. t.rows) is ∙ sym r;
   columns = ap (λ t. t.columns) is ∙ sym c;
+  charset = ap (λ t. t.charset) is ∙ sym ascii;
+  ascii = ascii;
   valid = valid;
   state = blank_state profile.rows profile.columns;
   agrees = agrees_at_first laws memories profile memory ecma nothing (blank_state profile.rows profile.columns) (blanks.state profile (laws.is_profile profile ecma));
@@ -82,21 +79,21 @@ blank_terminal laws blanks memories rows columns profile memory terminal ecma no
   defined = ap (λ t. t.undefined) is;
 }
 
-pub blank_ready : Ecma48Laws → BlankLaws → MemoryRuns → (size : Size) (screen : ScreenState) → IsOpenedOn size screen
-    → (terminal : ScreenView) → terminal ≡ blank_screen size.rows size.columns → IsScreen terminal → IsReadyStage true (record { screen = screen; terminal = terminal })
-blank_ready laws blanks memories size screen opened terminal blank valid =
+pub blank_ready : BundledIsEcma48 → Ecma48Laws → BlankLaws → MemoryRuns → (size : Size) (screen : ScreenState) → IsOpenedOn size screen
+    → (terminal : ScreenView) → terminal ≡ blank_screen Ascii size.rows size.columns → IsScreen terminal → IsReadyStage true (record { screen = screen; terminal = terminal })
+blank_ready bundled_laws laws blanks memories size screen opened terminal blank valid =
     let entry = opened.entry in
     let is = opened.is in
-    let ecma = ecma48_is entry size opened.bundled screen.profile is.profile in
+    let ecma = bundled_laws Ascii entry (Some size) screen.profile opened.bundled is.profile in
     record {
       screen = record { entry = ecma; nothing = is.owed };
-      terminal = λ on. blank_terminal laws blanks memories size.rows size.columns screen.profile screen.memory terminal ecma is.memory (rows_are entry size screen.profile is.profile)
+      terminal = λ on. blank_terminal laws blanks memories size.rows size.columns screen.profile screen.memory terminal ecma (ascii_is entry size screen.profile is.profile) is.memory (rows_are entry size screen.profile is.profile)
           (columns_are entry size screen.profile is.profile) blank valid;
     }
 
-pub blank_first : Ecma48Laws → MemoryRuns → (size : Size) (screen : ScreenState) → IsOpenedOn size screen
+pub blank_first : BundledIsEcma48 → Ecma48Laws → MemoryRuns → (size : Size) (screen : ScreenState) → IsOpenedOn size screen
     → (terminal : ScreenView) → IsFirst size.rows size.columns (record { screen = screen; terminal = terminal })
-blank_first laws memories size screen opened terminal =
+blank_first bundled_laws laws memories size screen opened terminal =
     let entry = opened.entry in
     let bundled = opened.bundled in
     let is = opened.is in
@@ -110,9 +107,9 @@ blank_first laws memories size screen opened terminal =
         };
         keys = record { keys = (is.keys.all ∙ keys_are entry bundled) i; queue = is.queue i; waiting = is.waiting i };
       };
-      profile = laws.made screen.profile (ecma48_is entry size bundled screen.profile is.profile) ∙ (λ i. ecma48_profile (rows i) (columns i));
+      profile = laws.made screen.profile (bundled_laws Ascii entry (Some size) screen.profile bundled is.profile) ∙ (λ i. ecma48_profile (ascii_is entry size screen.profile is.profile i) (rows i) (columns i));
       memory = is.memory;
-      agrees = agrees_at_first laws memories screen.profile screen.memory (ecma48_is entry size bundled screen.profile is.profile) is.memory;
+      agrees = agrees_at_first laws memories screen.profile screen.memory (bundled_laws Ascii entry (Some size) screen.profile bundled is.profile) is.memory;
     }
 
 -- ---- the first command

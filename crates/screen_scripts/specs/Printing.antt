@@ -1,9 +1,10 @@
 -- The lines that the demonstration prints, and the bytes that it sends instead in raw mode.
-use Rattle.std.specs.Prelude.{ℕ, ◌≡◌, ◌+◌, ◌/◌, ◌%◌, ◌==◌, ◌&&◌, nat_lt, Bool, true, false, List, [], ◌∷◌, ◌++◌, map, codes, Option, Some, None, IfSome, if◌then◌else◌}
+use Rattle.std.specs.Prelude.{ℕ, ◌≡◌, ◌+◌, ◌/◌, ◌%◌, ◌==◌, ◌&&◌, nat_lt, Bool, true, false, List, [], ◌∷◌, ◌++◌, map, codes, Option, Some, None, IfSome, if◌then◌else◌, encode_utf8}
 use Rattle.std.specs.List.{flat_map, list_all}
 use Rattle.std.specs.Option.{is_none}
 use Rattle.std.specs.Fmt.{decimal}
 use Rattle.std.specs.Io.KnownBytes.{Appends}
+use Rattle.scr_cells.specs.declared.charsets.Charset.TheVariants.{Ascii}
 use Rattle.scr_cells.specs.LookViews.{LookView, negative_grid}
 use Rattle.scr_cells.specs.PictureViews.{PictureView}
 use Rattle.scr_term.specs.declared.operations.operation.Op.{Op}
@@ -32,9 +33,9 @@ hexadecimal_digit n = if nat_lt n 10 then 48 + n else 87 + n
 abbrev pub attribute_digits : LookView → List ℕ
 attribute_digits look = hexadecimal_digit (look.pen.attrs / 16) ∷ hexadecimal_digit (look.pen.attrs % 16) ∷ []
 
--- The characters of a row between two bars.
+-- The characters of a row between two bars, in UTF-8.
 abbrev pub character_line : List LookView → List ℕ
-character_line looks = 124 ∷ map (λ look. look.character) looks ++ 124 ∷ 10 ∷ []
+character_line looks = 124 ∷ flat_map (λ look. encode_utf8 look.character) looks ++ 124 ∷ 10 ∷ []
 
 -- The attributes of a row between two colons; nothing if the row has none.
 abbrev pub attribute_line : List LookView → List ℕ
@@ -93,7 +94,7 @@ key_line key = codes "key " ++ key_name key ++ 10 ∷ []
 
 -- What the terminal of the bundled entry can show: every attribute, and colours.
 abbrev pub abilities_for : PictureView → Abilities
-abilities_for picture = full_abilities picture.rows picture.columns
+abilities_for picture = full_abilities Ascii picture.rows picture.columns
 
 -- The lines of a screen that shows the negative of the painted picture (reverse in place of standout), with the cursor
 -- where the picture asks for it, if it does.
@@ -173,7 +174,7 @@ IsOutput false profile events text = ArePrinted events text
 
 -- The profile of the bundled entry on a screen of the script's size.
 abbrev pub profile_of : List ℕ → ProfileView
-profile_of script = ecma48_profile (size_of script).0 (size_of script).1
+profile_of script = ecma48_profile Ascii (size_of script).0 (size_of script).1
 
 -- The writer's text grew by an output for these events.
 pub record Writes (raw : Bool) (script : List ℕ) (events : List Event) (old new : Option (List ℕ)) : Type 0 where

@@ -1,6 +1,7 @@
 -- What a run keeps true between lines, and what each line does. Definitions that only private functions use.
 use Rattle.std.specs.Prelude.{ℕ, ◌≡◌, ◌≢◌, ◌++◌, not, Bool, true, false, List, [], ◌∷◌, map, option_map, Option, Some, None}
 use Rattle.std.specs.List.{flat_map}
+use Rattle.scr_cells.specs.declared.charsets.Charset.TheVariants.{Ascii}
 use Rattle.scr_cells.specs.PictureViews.{PictureView}
 use Rattle.scr_term.specs.declared.operations.operation.Op.{Op}
 use Rattle.scr_term.specs.Operations.Admission.{IsEcma48}
@@ -47,6 +48,8 @@ pub record IsReady (screen : ScreenState) : Type 0 where
 pub record IsTerminalFor (profile : ProfileView) (memory : MemoryView) (screen : ScreenView) : Type 0 where
   pub rows : screen.rows ≡ profile.rows
   pub columns : screen.columns ≡ profile.columns
+  pub charset : screen.charset ≡ profile.charset
+  pub ascii : profile.charset ≡ Ascii
   pub valid : IsScreen screen
   pub state : TerminalState
   pub agrees : Agrees (abilities profile) memory state
@@ -190,14 +193,14 @@ pub record IsAhead (fed : Bool) (stage : Playing) (update : Option (List ℕ)) :
 -- A new stage of this size on which nothing was done; nothing is known of the terminal, so every state agrees.
 pub record IsFirst (rows columns : ℕ) (stage : Playing) : Type 0 where
   pub is : stage_of stage.screen ≡ first_stage rows columns
-  pub profile : stage.screen.profile ≡ ecma48_profile rows columns
+  pub profile : stage.screen.profile ≡ ecma48_profile Ascii rows columns
   pub memory : stage.screen.memory ≡ unknown stage.screen.profile.rows stage.screen.profile.columns
   pub agrees : (state : TerminalState) → IsState (abilities stage.screen.profile) state → Agrees (abilities stage.screen.profile) stage.screen.memory state
 
 -- A command opened this stage; nothing is known of the terminal, so every state agrees.
 pub record Opens (command : Command) (stage : Playing) : Type 0 where
   pub is : opened command ≡ Some (record { stage = stage_of stage.screen; events = [] })
-  pub profile : stage.screen.profile ≡ ecma48_profile (size_in (Some command)).0 (size_in (Some command)).1
+  pub profile : stage.screen.profile ≡ ecma48_profile Ascii (size_in (Some command)).0 (size_in (Some command)).1
   pub ready : IsReadyStage true stage
   pub memory : stage.screen.memory ≡ unknown stage.screen.profile.rows stage.screen.profile.columns
   pub agrees : (state : TerminalState) → IsState (abilities stage.screen.profile) state → Agrees (abilities stage.screen.profile) stage.screen.memory state
@@ -251,7 +254,7 @@ pub record CommandWrites (raw : Bool) (old : Playing) (command : Command) (text 
 
 -- The profile after a line: the one of the size that the line gives, if it opened the stage.
 abbrev pub profile_then : Option Playing → List ℕ → ProfileView
-profile_then None line = ecma48_profile (size_in (command_of line)).0 (size_in (command_of line)).1
+profile_then None line = ecma48_profile Ascii (size_in (command_of line)).0 (size_in (command_of line)).1
 profile_then (Some stage) line = stage.screen.profile
 
 -- What a line did, and what is written for it.

@@ -62,6 +62,7 @@ fault_name faults.TooMany = codes "TooMany"
 fault_name faults.NoMemory = codes "NoMemory"
 fault_name faults.BadPair = codes "BadPair"
 fault_name faults.BadColour = codes "BadColour"
+fault_name faults.NotOneColumn = codes "NotOneColumn"
 
 -- The name of each key error.
 abbrev pub key_fault_name : KeyFault → List ℕ

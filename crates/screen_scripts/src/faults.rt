@@ -26,6 +26,7 @@ pub fn fault_name(fault: WinFault) -> &'static str
         WinFault::NoMemory => "NoMemory",
         WinFault::BadPair => "BadPair",
         WinFault::BadColour => "BadColour",
+        WinFault::NotOneColumn => "NotOneColumn",
     }
 }
 

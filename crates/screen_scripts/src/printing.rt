@@ -67,13 +67,15 @@ fn print_row(looks: &[Look], text: &mut Vec<u8>) -> Result<(), NoMemory>
     print_colours(looks, text)
 }
 
-// Adds the characters of a row between two bars.
+// Adds the characters of a row between two bars, in UTF-8.
 fn print_characters(looks: &[Look], text: &mut Vec<u8>) -> Result<(), NoMemory>
     ensures { OnOk result (text.new.items ≡ text.old.items ++ character_line looks.now) }
 {
     text.push(b'|')?;
     for look in looks {
-        text.push(look.byte())?;
+        let mut buffer = [0; 4];
+        let character = look.character();
+        text.extend_from_slice(character.encode_utf8(&mut buffer).as_bytes())?;
     }
     text.extend_from_slice(b"|\n")?;
     Ok(())

@@ -9,7 +9,7 @@ use crate::line_faults::LineFault;
 use curses::Screen;
 use scr_cells::{NoMemory, Size};
 use scr_memory::memory_runs;
-use scr_term::{blank_laws, ecma48_laws};
+use scr_term::{blank_laws, bundled_is_ecma48, ecma48_laws};
 use scr_terminal::EcmaScreen;
 use std::alloc::Global;
 use ti_caps::bundled;
@@ -43,6 +43,7 @@ fn blank_stage(alloc: Global, size: Size) -> Result<Stage, NoMemory>
     ensures first { IfOk result (λ stage. IsFirst size.rows size.columns stage) }
 {
     blank_laws();
+    bundled_is_ecma48();
     ecma48_laws();
     memory_runs();
     let screen = open_screen(alloc, size)?;

@@ -106,7 +106,7 @@ fn draw_stretch(row: u32, column: usize, looks: &[Look], page: &mut Page) {
         page.add(paper);
         page.add(b"\"/>\n");
     }
-    let is_seen = has(attrs, Attrs::UNDERLINE) || looks.iter().any(|look| look.byte() != b' ');
+    let is_seen = has(attrs, Attrs::UNDERLINE) || looks.iter().any(|look| look.character() != ' ');
     if is_seen && !has(attrs, Attrs::INVIS) {
         page.add(b"<text x=\"");
         page.add_value(&left);
@@ -120,7 +120,7 @@ fn draw_stretch(row: u32, column: usize, looks: &[Look], page: &mut Page) {
         add_styles(attrs, page);
         page.add(b">");
         for look in looks {
-            add_character(look.byte(), page);
+            add_character(look.character(), page);
         }
         page.add(b"</text>\n");
     }
@@ -171,12 +171,12 @@ fn add_styles(attrs: Attrs, page: &mut Page) {
     }
 }
 
-fn add_character(byte: u8, page: &mut Page) {
-    match byte {
-        b'&' => page.add(b"&amp;"),
-        b'<' => page.add(b"&lt;"),
-        b'>' => page.add(b"&gt;"),
-        _ => page.add(&[byte]),
+fn add_character(character: char, page: &mut Page) {
+    match character {
+        '&' => page.add(b"&amp;"),
+        '<' => page.add(b"&lt;"),
+        '>' => page.add(b"&gt;"),
+        _ => page.add(character.encode_utf8(&mut [0; 4]).as_bytes()),
     }
 }
 
