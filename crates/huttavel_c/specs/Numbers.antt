@@ -31,6 +31,7 @@ window_number windows.TooMany = 22
 window_number windows.NoMemory = 4
 window_number windows.BadPair = 23
 window_number windows.BadColour = 24
+window_number windows.NotOneColumn = 27
 
 -- Of a call about keys.
 abbrev pub key_number : KeyFault → ℕ

@@ -59,6 +59,7 @@ pub(crate) fn window_number(fault: WinFault) -> u32
         WinFault::NoMemory => NO_MEMORY,
         WinFault::BadPair => BAD_PAIR,
         WinFault::BadColour => 24,
+        WinFault::NotOneColumn => 27,
     }
 }
 
