@@ -4,10 +4,10 @@ use crate::subjects::{Subjects, keep};
 use check_harness::answers::{add_number, add_word};
 use check_harness::buffers::Buffer;
 use check_harness::troubles::Trouble;
-use check_harness::words::Line;
+use check_harness::words::{Line, Words};
 use curses::{OpenFault, Screen};
 use scr_cells::Size;
-use scr_keys::{Key, KeyFault, KeyReader, KeyTable};
+use scr_keys::{Key, KeyFault, KeyReader, KeyTable, Typed, TypedItems, TypedReader};
 use std::alloc::Global;
 use ti_caps::{Entry, Slot};
 
@@ -44,8 +44,8 @@ impl Keyboard {
 }
 
 /// The lines `reader` and `screen`, which open a keyboard, and `beside reader` and `beside screen`, which open one
-/// beside it; and `byte BYTE`, `bytes TEXT`, `idle`, and `keys`, which takes all keys that wait, or has `none`. Tells
-/// whether a line is one of them.
+/// beside it; `byte BYTE`, `bytes TEXT`, `idle`, and `keys`, which takes all keys that wait, or has `none`; and `typed`,
+/// which has what is typed by what arrives. Tells whether a line is one of them.
 pub fn answer_of_keys(subjects: &mut Subjects, line: &mut Line<'_>) -> Result<bool, Trouble> {
     match (line.name, &subjects.entry) {
         ("reader" | "screen", Some(entry)) => {
@@ -55,6 +55,7 @@ pub fn answer_of_keys(subjects: &mut Subjects, line: &mut Line<'_>) -> Result<bo
             let name = line.words.name();
             open(entry, name, &mut subjects.beside, line);
         }
+        ("typed", _) => add_typed(line),
         _ => match &mut subjects.keyboard {
             Some(keyboard) => return Ok(answer_of_keyboard(keyboard, line)),
             None => return Ok(false),
@@ -121,6 +122,48 @@ fn add_keys(keyboard: &mut Keyboard, got: &mut Buffer) {
             Some(Key::Byte(byte)) => ("Byte", i64::from(byte)),
             None if taken == 0 => return add_word("none", got),
             None => return,
+        };
+        add_word(word, got);
+        add_number(number, got);
+    }
+}
+
+// Adds what is typed by what arrives at a new reader: bytes, `slot` with the position of a key, and `idle`; and how many
+// bytes wait then.
+fn add_typed(line: &mut Line<'_>) {
+    let mut reader = TypedReader::new();
+    for _ in 0..ALL {
+        if line.words.is_at_end() {
+            break;
+        }
+        let items = arrive(&mut reader, &mut line.words);
+        add_items(items, &mut line.got);
+    }
+    add_word("waits", &mut line.got);
+    add_number(reader.waiting().len() as i64, &mut line.got);
+}
+
+// What is typed by what the next words say.
+fn arrive(reader: &mut TypedReader, words: &mut Words<'_>) -> TypedItems {
+    match words.peek() {
+        b"idle" => {
+            let _word = words.next();
+            reader.idle()
+        }
+        b"slot" => {
+            let _word = words.next();
+            reader.key(Key::Slot(u16::from(words.byte())))
+        }
+        _ => reader.key(Key::Byte(words.byte())),
+    }
+}
+
+fn add_items(items: TypedItems, got: &mut Buffer) {
+    for typed in items {
+        let (word, number) = match typed {
+            Typed::Character(character) => ("Character", i64::from(u32::from(character))),
+            Typed::Key(slot) => ("Key", i64::from(slot)),
+            Typed::Byte(byte) => ("Byte", i64::from(byte)),
         };
         add_word(word, got);
         add_number(number, got);

@@ -20,6 +20,7 @@ pub fn read_op(words: &mut Words<'_>) -> Result<Op, Trouble> {
         "fore" => Op::Fore(words.byte()),
         "back" => Op::Back(words.byte()),
         "put" => Op::Put(words.byte()),
+        "write" => Op::Write(char::from_u32(words.number()).unwrap_or(' ')),
         "repeat" => Op::Repeat(words.byte(), words.number()),
         "home" => Op::Home,
         "return" => Op::Return,
@@ -66,6 +67,10 @@ pub fn add_op(op: Op, got: &mut Buffer) {
         Op::Put(byte) => {
             add_word("put", got);
             add_text(&[byte], got)
+        }
+        Op::Write(character) => {
+            add_word("write", got);
+            add_number(i64::from(u32::from(character)), got)
         }
         Op::Repeat(byte, count) => {
             add_word("repeat", got);

@@ -10,7 +10,7 @@ use check_harness::troubles::Trouble;
 use check_harness::words::{Line, Words};
 use curses::{Device, OpenFault, Screen};
 use generated_sessions::{
-    MOVING, Recorded, add_count, check_sessions, count_cuts, obey, read_entry,
+    MOVING, Recorded, add_count, check_sessions, count_cuts, obey, opening_of, read_entry,
 };
 use scr_cells::Size;
 use scr_windows::Win;
@@ -21,10 +21,13 @@ use ti_caps::{Bytes, Entry};
 /// Makes the call of a line about a screen, and adds what it answers.
 pub fn answer_of_screen(subjects: &mut Subjects, line: &mut Line<'_>) -> Result<(), Trouble> {
     match line.name {
-        "screen" => open(&mut subjects.opened, None, line),
-        "moving" => open(&mut subjects.opened, Some(MOVING), line),
+        "screen" | "utf8_screen" => open(&mut subjects.opened, None, line),
+        "moving" | "utf8_moving" => open(&mut subjects.opened, Some(MOVING), line),
         "drawn" => open_drawn(&mut subjects.opened, line),
-        "sessions" | "cut_sessions" => check_sessions(&mut subjects.made_up, line),
+        "sessions" | "cut_sessions" | "utf8_sessions" | "utf8_cut_sessions" => check_sessions(
+            &mut subjects.made_up,
+            line,
+        ),
         "changed" => check_changed(line),
         "refusal" => add_refusal(line),
         _ => match &mut subjects.opened {
@@ -37,7 +40,7 @@ pub fn answer_of_screen(subjects: &mut Subjects, line: &mut Line<'_>) -> Result<
 // The line `screen R C NAME ..`, which opens a screen of so many rows and columns on the bundled entry without the
 // texts and flags of these names; a number's name has its value after it, and that of a text that is another has this
 // text. The names may be given: the line `moving R C` opens one on the bundled entry with texts that insert and delete
-// lines and characters.
+// lines and characters. Names that begin with `utf8` open it in UTF-8.
 fn open<'a>(
     opened: &mut Option<Recorded>,
     given: Option<&'a str>,
@@ -49,7 +52,7 @@ fn open<'a>(
         None => line.words,
     };
     let refusal = match read_entry(line.alloc, &mut names) {
-        Some(entry) => Recorded::open_into(line.alloc, entry, size, opened)?,
+        Some(entry) => Recorded::open_into(line.alloc, entry, size, opening_of(line.name), opened)?,
         None => Some(OpenFault::NoMemory),
     };
     add_refused(refusal, &mut line.got);

@@ -63,7 +63,10 @@ fn add_of_rows(line: &mut Line<'_>) -> Result<(), Trouble> {
     }
     let shown = Attrs(line.words.byte());
     if one.looks.len() == other.cells.len() {
-        add_place(Some(shown_before(&one.looks, &other.cells, shown)), got);
+        add_place(
+            Some(shown_before(&one.looks, &other.cells, Charset::Ascii, shown)),
+            got,
+        );
     }
     Ok(())
 }

@@ -51,6 +51,11 @@ fn call_of(line: &mut Line<'_>) -> Option<Call> {
         let win = win(&mut line.words);
         return Some(Call::AddText(win, Bytes(line.text().into_bytes())));
     }
+    if line.name == "add_str" {
+        let win = win(&mut line.words);
+        let text = String::from_utf8(line.text().into_bytes()).ok()?;
+        return Some(Call::AddStr(win, text));
+    }
     let (name, by) = (line.name, &mut line.words);
     on_windows(name, by)
         .or(on_screen(name, by))
@@ -132,6 +137,11 @@ fn on_cells(name: &str, by: &mut Words<'_>) -> Option<Call> {
         "line_across" => Call::LineAcross(win(by), by.byte(), by.number()),
         "line_down" => Call::LineDown(win(by), by.byte(), by.number()),
         "border" => Call::Border(win(by), border(by)),
+        "add_character" => Call::AddCharacter(win(by), character(by), attrs(by)),
+        "insert_character" => Call::InsertCharacter(win(by), character(by), attrs(by)),
+        "line_across_of" => Call::LineAcrossOf(win(by), character(by), by.number()),
+        "line_down_of" => Call::LineDownOf(win(by), character(by), by.number()),
+        "border_of" => Call::BorderOf(win(by), border_of(by)),
         "clear_to_eol" => Call::ClearToEol(win(by)),
         "clear_to_bottom" => Call::ClearToBottom(win(by)),
         "erase" => Call::Erase(win(by)),
@@ -187,6 +197,19 @@ fn signed(by: &mut Words<'_>) -> i32 {
             0
         }
     }
+}
+
+// The character of a code; U+FFFD where there is none.
+fn character(by: &mut Words<'_>) -> char {
+    char::from_u32(by.number()).unwrap_or(char::REPLACEMENT_CHARACTER)
+}
+
+fn border_of(by: &mut Words<'_>) -> [char; 8] {
+    let mut characters = [' '; 8];
+    for place in characters.iter_mut() {
+        *place = character(by);
+    }
+    characters
 }
 
 fn border(by: &mut Words<'_>) -> [u8; 8] {

@@ -23,7 +23,7 @@ impl Emulated {
         let screen = if can_move(profile) {
             None
         } else {
-            Some(EcmaScreen::new(alloc, profile.size())?)
+            Some(EcmaScreen::new_as(alloc, profile.size(), profile.charset())?)
         };
         Ok(Emulated { terminal, screen })
     }

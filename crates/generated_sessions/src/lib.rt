@@ -26,5 +26,5 @@ pub use entries::{MOVING, change_capability, read_entry};
 pub use plain::{is_touched, line_of};
 pub use recorded::Recorded;
 pub use repaints::{bytes_of, joined_on, scratch_on};
-pub use sessions::check_sessions;
+pub use sessions::{check_sessions, opening_of};
 pub use writers::{read_fails, writer_that};

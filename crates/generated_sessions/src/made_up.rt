@@ -80,6 +80,34 @@ static LINES: [(&str, u32); 65] = [
     ("pad_noutrefresh W N N H V E E", 1),
 ];
 
+// The same for characters beyond ASCII, on screens in UTF-8. U stands for a text, and J for the code of a character.
+static LINES_BEYOND_ASCII: [(&str, u32); 7] = [
+    ("add_str 0 U", 24),
+    ("add_str W U", 8),
+    ("add_character 0 J A", 4),
+    ("insert_character 0 J A", 8),
+    ("line_across_of W J V", 2),
+    ("line_down_of W J H", 2),
+    ("border_of W J J J J J J J J", 1),
+];
+
+// What such texts are made of: Latin, Greek, Cyrillic, lines, blocks and braille; wide characters, one that is drawn over
+// the one before it, control characters and one beyond the Basic Multilingual Plane.
+static TEXTS: [&str; 12] = [
+    "café ",
+    "naïve ",
+    "Ωμέγα ",
+    "Жизнь ",
+    "┌──┐",
+    "│  │",
+    "█▓▒░",
+    "⠿⠇",
+    "日本",
+    "e\u{301}",
+    "\u{1F600}\u{9B}",
+    "plain ",
+];
+
 // What texts are made of.
 static WORDS: [&[u8]; 8] = [
     b"alpha ",
@@ -94,12 +122,33 @@ static WORDS: [&[u8]; 8] = [
 
 /// Adds a line that is made up.
 pub fn add_line(alloc: Global, screen: &Screen, random: &mut Random, line: &mut Buffer) {
+    add_one_of(alloc, screen, &LINES, random, line);
+}
+
+/// Adds a line that is made up, often about characters beyond ASCII.
+pub fn add_line_beyond(alloc: Global, screen: &Screen, random: &mut Random, line: &mut Buffer) {
+    let lines: &[(&str, u32)] = if random.below(3) == 0 {
+        &LINES_BEYOND_ASCII
+    } else {
+        &LINES
+    };
+    add_one_of(alloc, screen, lines, random, line);
+}
+
+// Adds one of these lines, each as often as it says.
+fn add_one_of(
+    alloc: Global,
+    screen: &Screen,
+    lines: &[(&str, u32)],
+    random: &mut Random,
+    line: &mut Buffer,
+) {
     let mut count: u32 = 0;
-    for (_, often) in &LINES {
+    for (_, often) in lines {
         count = count.saturating_add(*often);
     }
     let mut left = random.below(count);
-    for (made, often) in &LINES {
+    for (made, often) in lines {
         if left < *often {
             add_words(alloc, screen, made, random, line);
             return;
@@ -132,6 +181,7 @@ fn add_words(alloc: Global, screen: &Screen, line: &str, random: &mut Random, ma
         match word {
             "S" => add_number(i64::from(random.signed()), made),
             "X" | "Z" => add_bytes(alloc, word, random, made),
+            "U" => add_string(alloc, random, made),
             "D" => add_colour(random, made),
             _ => about.add_word(word, random, made),
         }
@@ -204,6 +254,7 @@ fn plain_number(word: &str, random: &mut Random) -> Option<u32> {
         "P" => random.pair(),
         "Q" => random.below(4),
         "K" => random.below(9),
+        "J" => code(random),
         _ => return None,
     })
 }
@@ -218,6 +269,27 @@ fn next_window(screen: &Screen, random: &mut Random) -> Win {
         Some(win) if random.below(16) > 0 => win,
         _ => Win(random.below(count.saturating_add(9))),
     }
+}
+
+// The code of a character: most often a line, a block or a letter, and now and then one that is none.
+fn code(random: &mut Random) -> u32 {
+    match random.below(4) {
+        0 => random.below(256).saturating_add(0x2500),
+        1 => random.below(256).saturating_add(0x370),
+        2 => random.below(256),
+        _ => random.below(0x1_0000),
+    }
+}
+
+// Adds a text of some characters in UTF-8.
+fn add_string(alloc: Global, random: &mut Random, made: &mut Buffer) {
+    let mut text = Buffer::new(alloc);
+    for _ in 0..random.below(6) {
+        let place = random.below(12) as usize;
+        text.extend(TEXTS.get(place).copied().unwrap_or("x").as_bytes());
+    }
+    add_text(text.bytes(), made);
+    made.check(text.done().is_ok());
 }
 
 // Adds a text of some bytes of any kind, or of words.

@@ -4,14 +4,14 @@
 use crate::emulated::Emulated;
 use check_harness::troubles::Trouble;
 use curses::Screen;
-use scr_cells::{Cell, Look, Size};
+use scr_cells::{Cell, Charset, Look, Size};
 use scr_term::{Profile, Spot};
 use scr_windows::{Win, WindowRef};
 use screen_sessions::Call;
 use std::alloc::Global;
 
-// What a place has: a byte, attributes and a colour pair.
-type Place = (u8, u8, u32);
+// What a place has: a character, what stands for it in ASCII, attributes and a colour pair.
+type Place = (char, u8, u8, u32);
 
 /// The picture.
 #[derive(Drop)]
@@ -42,7 +42,7 @@ impl Plain {
         let places = (size.rows as usize).saturating_mul(size.columns as usize);
         Ok(Plain {
             size,
-            places: vec![in alloc; (b' ', 0, 0); places]?,
+            places: vec![in alloc; (' ', b' ', 0, 0); places]?,
             pairs: vec![in alloc; (Some(7), Some(0)); 64]?,
             wish: None,
             touched: Vec::new(alloc),
@@ -123,7 +123,7 @@ impl Plain {
             .take(part.columns as usize);
         let first = self.place_of(part.top.saturating_add(row), part.left);
         for (place, cell) in self.places.iter_mut().skip(first).zip(cells) {
-            *place = (cell.byte(), cell.attrs().0, cell.pair());
+            *place = (cell.character(), cell.byte(), cell.attrs().0, cell.pair());
         }
     }
 
@@ -164,12 +164,16 @@ impl Plain {
 
     // Whether a look is what a terminal with these operations shows of a place.
     fn is_seen(&self, emulated: &Emulated, profile: &Profile, look: Look, place: Place) -> bool {
-        let (byte, attrs, pair) = place;
+        let (character, stand_in, attrs, pair) = place;
+        let wanted = match profile.charset() {
+            Charset::Ascii => char::from(stand_in),
+            Charset::Utf8 => character,
+        };
         let (foreground, background) = match self.pairs.get(pair as usize) {
             Some(colours) if pair > 0 && profile.colours() => *colours,
             _ => (None, None),
         };
-        look.byte() == byte
+        look.character() == wanted
             && look.attrs().0 == emulated.seen(attrs & profile.shows().0)
             && look.foreground().map(u32::from) == foreground
             && look.background().map(u32::from) == background

@@ -9,11 +9,11 @@ use check_harness::answers::add_word;
 use check_harness::buffers::{Buffer, are_same};
 use check_harness::checking::put;
 use check_harness::troubles::Trouble;
-use curses::{Device, OpenFault, Screen, UpdateFault};
+use curses::{Device, OpenFault, Opening, Screen, UpdateFault};
 use scr_cells::{NoMemory, Size};
 use scr_term::{Op, Ops, Profile, ProfileFault};
 use screen_sessions::{
-    Answer, Call, Faulty, Report, WriterFailure, WriterFault, make_call, make_calls, session,
+    Answer, Call, Faulty, Report, WriterFailure, WriterFault, make_call, make_calls, session_as,
 };
 use std::alloc::Global;
 use ti_caps::{Entry, slots};
@@ -34,6 +34,7 @@ enum Allowed {
 pub struct Recorded {
     pub(crate) alloc: Global,
     entry: Entry,
+    opening: Opening,
     /// The screen.
     pub screen: Screen,
     /// The terminal's operations.
@@ -66,21 +67,23 @@ impl Recorded {
         alloc: Global,
         entry: Entry,
         size: Size,
+        opening: Opening,
         opened: &mut Option<Recorded>,
     ) -> Result<Option<OpenFault>, Trouble> {
-        let profile = match Profile::admit(alloc, &entry, Some(size)) {
+        let profile = match Profile::admit_as(alloc, &entry, Some(size), opening.charset) {
             Ok(profile) => profile,
             Err(ProfileFault::NoMemory) => return Ok(Some(OpenFault::NoMemory)),
             Err(fault) => return Ok(Some(OpenFault::Profile(fault))),
         };
         let (emulated, plain) = (Emulated::new(alloc, &profile)?, Plain::blank(alloc, size)?);
-        let screen = match Screen::open(alloc, &entry, Some(size)) {
+        let screen = match Screen::open_as(alloc, &entry, Some(size), opening) {
             Ok(screen) => screen,
             Err(fault) => return Ok(Some(fault)),
         };
         let recorded = Recorded {
             alloc,
             entry,
+            opening,
             screen,
             profile,
             emulated,
@@ -218,7 +221,13 @@ impl Recorded {
     /// Makes all calls again by one session.
     pub(crate) fn call_again(&self, device: &mut Device<Faulty>) -> Result<Report, OpenFault> {
         let size = Some(self.profile.size());
-        session(self.alloc, &self.entry, size, &self.calls, device)
+        session_as(
+            self.alloc,
+            &self.entry,
+            (size, self.opening),
+            &self.calls,
+            device,
+        )
     }
 
     // Whether a session has answered and sent the same, in a word.

@@ -5,14 +5,15 @@ use crate::answers::add_count;
 use crate::calls::obey;
 use crate::cuts::count_cuts;
 use crate::entries::read_entry;
-use crate::made_up::{add_line, add_taking};
+use crate::made_up::{add_line, add_line_beyond, add_taking};
 use crate::recorded::Recorded;
 use check_harness::answers::{add_number, add_text, add_word};
 use check_harness::buffers::Buffer;
 use check_harness::random::Random;
 use check_harness::troubles::Trouble;
 use check_harness::words::{Line, Words};
-use scr_cells::Size;
+use curses::Opening;
+use scr_cells::{Charset, Size};
 use scr_term::Op;
 use std::alloc::Global;
 use std::io::Write;
@@ -34,6 +35,7 @@ static BEGIN: [&str; 8] = [
 struct Sessions {
     alloc: Global,
     size: Size,
+    opening: Opening,
     updates: u32,
     // Whether each update is cut after each number of its bytes.
     is_cut: bool,
@@ -53,10 +55,13 @@ struct Sessions {
 /// at least so many updates sent something, failed, and moved rows or characters. Where something does not agree, adds
 /// the number of the session, the answer of its last line, and all its lines.
 ///
+/// The lines `utf8_sessions` and `utf8_cut_sessions` do so on a screen in UTF-8.
+///
 /// The line `cut_sessions R C COUNT UPDATES SEED CUTS NAME ..`: the same, but that no update fails and nothing is
 /// written by others, and each update is cut as with `count_cuts`, which is at least so many cuts.
 pub fn check_sessions(opened: &mut Option<Recorded>, line: &mut Line<'_>) -> Result<(), Trouble> {
-    let (is_cut, words) = (line.name == "cut_sessions", &mut line.words);
+    let opening = opening_of(line.name);
+    let (is_cut, words) = (line.name.ends_with("cut_sessions"), &mut line.words);
     let size = words.size()?;
     let (count, updates, seed) = (words.number(), words.number(), words.number());
     let least = if is_cut {
@@ -70,6 +75,7 @@ pub fn check_sessions(opened: &mut Option<Recorded>, line: &mut Line<'_>) -> Res
     let mut sessions = Sessions {
         alloc: line.alloc,
         size,
+        opening,
         updates,
         is_cut,
         random: Random::new(seed),
@@ -86,6 +92,17 @@ pub fn check_sessions(opened: &mut Option<Recorded>, line: &mut Line<'_>) -> Res
     }
     sessions.add_counts(least, &mut line.got);
     Ok(())
+}
+
+/// How a line's screen is opened: in UTF-8 where the name begins with `utf8`.
+pub fn opening_of(name: &str) -> Opening {
+    Opening {
+        charset: if name.starts_with("utf8") {
+            Charset::Utf8
+        } else {
+            Charset::Ascii
+        },
+    }
 }
 
 // Whether an operation moves lines or characters.
@@ -129,7 +146,7 @@ impl Sessions {
         let mut names = names;
         let entry = read_entry(self.alloc, &mut names).ok_or(Trouble::NoMemory)?;
         names.done()?;
-        if Recorded::open_into(self.alloc, entry, self.size, opened)?.is_some() {
+        if Recorded::open_into(self.alloc, entry, self.size, self.opening, opened)?.is_some() {
             return Err(Trouble::NoMemory);
         }
         self.story.clear();
@@ -158,7 +175,11 @@ impl Sessions {
     // Makes the next calls and an update, which may fail or is cut in each way.
     fn check_update(&mut self, opened: &mut Recorded) -> Result<bool, Trouble> {
         for _ in 0..=self.random.below(8) {
-            add_line(self.alloc, &opened.screen, &mut self.random, &mut self.line);
+            let add = match self.opening.charset {
+                Charset::Ascii => add_line,
+                Charset::Utf8 => add_line_beyond,
+            };
+            add(self.alloc, &opened.screen, &mut self.random, &mut self.line);
             self.make(opened)?;
         }
         if !self.is_cut && self.random.below(16) == 0 && opened.emulated.is_free() {
