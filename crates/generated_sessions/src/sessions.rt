@@ -175,11 +175,20 @@ impl Sessions {
     // Makes the next calls and an update, which may fail or is cut in each way.
     fn check_update(&mut self, opened: &mut Recorded) -> Result<bool, Trouble> {
         for _ in 0..=self.random.below(8) {
-            let add = match self.opening.charset {
-                Charset::Ascii => add_line,
-                Charset::Utf8 => add_line_beyond,
-            };
-            add(self.alloc, &opened.screen, &mut self.random, &mut self.line);
+            match self.opening.charset {
+                Charset::Ascii => add_line(
+                    self.alloc,
+                    &opened.screen,
+                    &mut self.random,
+                    &mut self.line,
+                ),
+                Charset::Utf8 => add_line_beyond(
+                    self.alloc,
+                    &opened.screen,
+                    &mut self.random,
+                    &mut self.line,
+                ),
+            }
             self.make(opened)?;
         }
         if !self.is_cut && self.random.below(16) == 0 && opened.emulated.is_free() {
