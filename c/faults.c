@@ -30,6 +30,7 @@ static const saying sayings[] = {
     {HUTTAVEL_BAD_COLOUR, "bad colour"},
     {HUTTAVEL_NO_PARENT, "the window is not a subwindow"},
     {HUTTAVEL_NO_CURSOR, "the cursor is wanted nowhere"},
+    {HUTTAVEL_NOT_ONE_COLUMN, "not a character of one column"},
     {HUTTAVEL_QUEUE_FULL, "too many keys wait"},
     {HUTTAVEL_NO_KEY, "no key waits"},
     {HUTTAVEL_WRITE_FAILED, "write failed"},

@@ -105,6 +105,7 @@ enum huttavel_fault {
     HUTTAVEL_BAD_COLOUR = 24,    /* a number that no colour has */
     HUTTAVEL_NO_PARENT = 25,     /* the window is not a subwindow */
     HUTTAVEL_NO_CURSOR = 26,     /* the terminal's cursor is not wanted anywhere in particular */
+    HUTTAVEL_NOT_ONE_COLUMN = 27, /* a character that does not take one column */
     /* Of keys and of bytes that wait. */
     HUTTAVEL_QUEUE_FULL = 30,   /* too many keys are queued */
     HUTTAVEL_NO_KEY = 31,       /* no key is queued */

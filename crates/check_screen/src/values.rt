@@ -7,7 +7,7 @@ use check_harness::troubles::Trouble;
 use check_harness::words::{Line, Words};
 use generated_sessions::add_count;
 use scr_cells::{
-    Attrs, Cell, Look, Size, first_difference, first_look_difference, last_difference,
+    Attrs, Cell, Charset, Look, Size, first_difference, first_look_difference, last_difference,
     last_look_difference, shown_before,
 };
 
