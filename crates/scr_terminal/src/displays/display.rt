@@ -117,20 +117,30 @@ impl Display {
         ensures answer { result ≡ is_some (character_written self.old.columns self.old.state character) }
         ensures state { self.new ≡ gone_on self.old (character_written self.old.columns self.old.state character) }
     {
-        match (self.spot, Look::of(character, self.pen)) {
-            (Spot::At(row, column), Some(look)) => {
-                let _code = look.code();
-                look_grid_laws();
-                self.grid.put(row, column, look);
-                self.spot = if column + 1 < self.grid.columns() {
-                    Spot::At(row, column + 1)
-                } else {
-                    Spot::Margin(row)
-                };
-                true
-            }
-            _ => false,
+        match Look::of(character, self.pen) {
+            Some(look) => self.lay(look),
+            None => false,
         }
+    }
+
+    /// Writes a character by its look with the pen, as `write` does.
+    pub(crate) fn lay(&mut self, look: Look) -> bool
+        requires { look.pen ≡ self.old.state.pen }
+        ensures answer { result ≡ is_some (character_written self.old.columns self.old.state look.character) }
+        ensures state { self.new ≡ gone_on self.old (character_written self.old.columns self.old.state look.character) }
+    {
+        let Spot::At(row, column) = self.spot else {
+            return false;
+        };
+        let _code = look.code();
+        look_grid_laws();
+        self.grid.put(row, column, look);
+        self.spot = if column + 1 < self.grid.columns() {
+            Spot::At(row, column + 1)
+        } else {
+            Spot::Margin(row)
+        };
+        true
     }
 
     /// Writes a graphic character `count` times at the cursor, which goes behind the last. At the

@@ -1,6 +1,6 @@
 //! A screen that is fed the bytes of an ECMA-48 text. The files beside this one say which bytes
 //! make a control function, and what it changes.
-ghost use Rattle.std.specs.Prelude.{◌≡◌, ◌+◌, ◌<◌, ◌↔◌, false, length, [], ◌∷◌, bit_and, option_map, IfOk, IsOk, IsTrue};
+ghost use Rattle.std.specs.Prelude.{◌≡◌, ◌+◌, ◌<◌, ◌≤◌, ◌↔◌, false, length, [], ◌∷◌, bit_and, option_map, IfOk, IsOk, IsTrue};
 ghost use Rattle.std.specs.Option.{ForSome};
 ghost use Rattle.scr_cells.specs.declared.charsets.Charset.TheVariants.{Ascii};
 ghost use Rattle.scr_cells.specs.Attributes.{every_attribute};
@@ -20,7 +20,7 @@ use crate::ecma::controls::{control_character, control_sequence};
 use crate::ecma::readings::{Reading, read_byte};
 use crate::undefined::Undefined;
 use arrayvec::ArrayVec;
-use scr_cells::{Attrs, Charset, Look, NoMemory, Size, is_beyond_ascii};
+use scr_cells::{Attrs, Charset, Look, NoMemory, Size};
 use scr_term::Spot;
 use std::alloc::Global;
 use std::marker::Model;
@@ -203,10 +203,15 @@ impl EcmaScreen {
     // that characters of ASCII set up neither a character nor a change.
     #[inline(never)]
     fn take_character(&mut self, character: char)
+        requires { 160 ≤ character }
         ensures { self.new ≡ acted self.old (meaning self.old.rows self.old.columns self.old.state (Spelled character)) }
     {
         self.waiting.clear();
-        if !is_beyond_ascii(character) || !self.display.write(character) {
+        let is_defined = match Look::of(character, self.display.pen()) {
+            Some(look) => self.display.lay(look),
+            None => false,
+        };
+        if !is_defined {
             self.undefined = true;
         }
         let _size = self.display.size();
