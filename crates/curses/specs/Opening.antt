@@ -22,9 +22,9 @@ use Rattle.curses.specs.Texts.{texts_or_none}
 abbrev pub default_opening : Opening
 default_opening = record { charset = Ascii }
 
--- A screen just opened on the terminal of an entry, as is asked for: one blank window over the whole screen, a blank virtual screen,
--- nothing known of the terminal, nothing owed, the entry's keys with none pressed, and the opening and closing text,
--- each empty if it is refused.
+-- A screen just opened on the terminal of an entry, as is asked for: one blank window over the whole screen, a blank
+-- virtual screen, nothing known of the terminal, nothing owed, the entry's keys with none pressed, and the opening and
+-- closing text, each empty if it is refused.
 pub record IsOpenedAs (asked : Opening) (entry : Description) (size : Option Size) (screen : ScreenState) : Type 0 where
   pub profile : IsAdmittedAs asked.charset entry size screen.profile
   pub desk : screen.desk ≡ first_desk screen.profile.rows screen.profile.columns

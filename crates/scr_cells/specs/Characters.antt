@@ -92,8 +92,8 @@ seen_character Ascii code = stand_in code
 seen_character Utf8 code = code
 
 -- Laws of characters: those of ASCII are the ones below 128; all are scalar values that fit 16 bits; each below 128
--- stands for itself, a character of ASCII for each, and a byte below 128 for any number. What is seen of a character is one, and of those below 128 it is
--- themselves; in ASCII it is one of ASCII.
+-- stands for itself, a character of ASCII for each, and a byte below 128 for any number. What is seen of a character is
+-- one, and of those below 128 it is themselves; in ASCII it is one of ASCII. From 128 on all are characters above ASCII.
 pub record CharacterLaws : Type 0 where
   pub ascii : (code : ℕ) → IsAscii code → IsCharacter code
   pub below : (code : ℕ) → code < 128 → IsCharacter code → IsAscii code

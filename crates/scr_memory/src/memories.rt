@@ -203,8 +203,7 @@ impl Memory {
         }
     }
 
-    // Follows the leading characters of `ops` that fit in one row, or one operation, and returns how many were
-    // followed.
+    // Follows the characters that `ops` begins with and that fit in one row, or one operation. Returns how many.
     fn follow_next(&mut self, profile: &Profile, ops: &[Op]) -> usize
         requires some { 0 < length ops.now }
         requires rows { profile.now.rows ≡ self.old.rows }
