@@ -16,8 +16,9 @@ use scr_windows::{Win, WindowRef};
 pub static FIELDS: &str =
     "parent origin size cursor attrs pair background region scroll_ok clear_ok leave_ok";
 
-/// The lines `screen_size`, `count`, `nth INDEX`, `rows W`, `touched W`, `line W R`, `attributes W R` and `pairs W R`,
-/// and `window W FIELD`, `window W is_touched R` and `window W line R`. Tells whether a line is one of them.
+/// The lines `screen_size`, `count`, `nth INDEX`, `rows W`, `touched W`, `line W R`, `codes W R`, `attributes W R` and
+/// `pairs W R`, and `window W FIELD`, `window W is_touched R` and `window W line R`. Tells whether a line is one of
+/// them.
 pub fn answer_of_windows(screen: &Screen, line: &mut Line<'_>) -> Result<bool, Trouble> {
     let (words, got) = (&mut line.words, &mut line.got);
     match line.name {
@@ -29,7 +30,7 @@ pub fn answer_of_windows(screen: &Screen, line: &mut Line<'_>) -> Result<bool, T
             let name = line.name;
             add_made(window, got, |window, got| add_rows(&window, name, got));
         }
-        "line" | "attributes" | "pairs" => {
+        "line" | "codes" | "attributes" | "pairs" => {
             let cells = screen.line(Win(words.number()), words.number());
             let name = line.name;
             add_made(cells, got, |cells, got| add_cells(cells, name, got));
@@ -78,18 +79,19 @@ fn add_rows(window: &WindowRef<'_>, name: &str, got: &mut Buffer) {
     }
 }
 
-// Adds the bytes of a line, or the attributes or the colour pair of each of its cells.
+// Adds the bytes of a line, or the codes of the characters, the attributes or the colour pair of each of its cells.
 fn add_cells(cells: &[Cell], name: &str, got: &mut Buffer) {
     if name == "line" {
         add_text_of(cells, got);
         return;
     }
     for cell in cells {
-        let attrs = u32::from(cell.attrs().0);
-        add_number(
-            i64::from(if name == "pairs" { cell.pair() } else { attrs }),
-            got,
-        );
+        let number = match name {
+            "codes" => cell.code(),
+            "pairs" => cell.pair(),
+            _ => u32::from(cell.attrs().0),
+        };
+        add_number(i64::from(number), got);
     }
 }
 
