@@ -1,3 +1,4 @@
+pub mod AddedLaws
 pub mod AddingLaws
 pub mod AncestorLaws
 pub mod BlockLaws

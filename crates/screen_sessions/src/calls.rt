@@ -1,5 +1,5 @@
-//! Calls as values: a session is given a list of them, and each is made by the method of its name. The definitions are in
-//! `specs/Calls.antt`.
+//! Calls as values: a session is given a list of them, and each is made by the method of its name. The definitions are
+//! in `specs/Calls.antt`.
 ghost use Rattle.std.specs.Prelude.{◌≡◌, true};
 ghost use Rattle.screen_sessions.specs.Calls.{OnDeskOrRefused, drawing, erasing, is_told, placing, reading, setting, writing};
 ghost use Rattle.curses.specs.Forwarding.{OnDesk};

@@ -12,11 +12,11 @@ impl Screen {
     /// Adds a byte at a window's cursor, with these attributes besides those of the window and of its background. Its
     /// colour pair is the window's, or the background's if the window's is 0.
     ///
-    /// A byte 32 to 126 is written, a blank as the background's character, and the cursor moves right, from the last column
-    /// to the first of the next line. Byte 10 erases to the end of the line and goes to the first column of the next
-    /// line. Byte 9 erases up to the next column that is a multiple of 8 and goes there, or acts as byte 10 if the line
-    /// has no such column. Byte 8 moves the cursor left, at most to column 0, and 13 moves it to column 0. Any other
-    /// byte below 128 is shown as `^` and a character.
+    /// A byte 32 to 126 is written, a blank as the background's character, and the cursor moves right, from the last
+    /// column to the first of the next line. Byte 10 erases to the end of the line and goes to the first column of the
+    /// next line. Byte 9 erases up to the next column that is a multiple of 8 and goes there, or acts as byte 10 if the
+    /// line has no such column. Byte 8 moves the cursor left, at most to column 0, and 13 moves it to column 0. Any
+    /// other byte below 128 is shown as `^` and a character.
     ///
     /// In the last row of the scrolling region, the region scrolls up by one if `scroll_ok` is set, and the next line
     /// is that row again; without `scroll_ok` there is no next line. There is none below the window's last row either.

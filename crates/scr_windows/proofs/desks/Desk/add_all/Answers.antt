@@ -1,7 +1,7 @@
 use Rattle.std.proofs.Common.{◌+◌, ◌∙◌, ap, drop}
 use Rattle.scr_windows.specs.declared.faults.Added.{Added}
 use Rattle.scr_windows.specs.Calls.Adding.{either_stayed, text_added}
-use Rattle.scr_windows.proofs.TextLaws.{added_more}
+use Rattle.scr_windows.proofs.AddedLaws.{added_more}
 use Rattle.scr_windows.proofs.desks.Desk.add_all.Goals as goal
 
 pub loop-at-preserved : goal.loop-at-preserved

@@ -4,7 +4,7 @@ use Rattle.std.specs.Str.{IsCharBoundary, chars}
 use Rattle.std.proofs.lemmas.Str.{IsCharBoundary-from_rest, IsCharBoundary-start}
 use Rattle.scr_windows.specs.declared.faults.Added.{Added}
 use Rattle.scr_windows.specs.Calls.Adding.{either_stayed, fitted, text_added}
-use Rattle.scr_windows.proofs.TextLaws.{added_part, text_done}
+use Rattle.scr_windows.proofs.AddedLaws.{added_part, text_done}
 use Rattle.scr_windows.proofs.FittedLaws.{fitted_more, fitted_none}
 use Rattle.scr_windows.proofs.desks.Desk.add_characters.Goals as goal
 

@@ -7,7 +7,7 @@ use Rattle.scr_windows.specs.DeskViews.{DeskView, no_attributes, window_at}
 use Rattle.scr_windows.specs.Code.Canvases.{IsSheetOf}
 use Rattle.scr_windows.specs.Calls.Adding.{text_added}
 use Rattle.scr_windows.proofs.AddingLaws.{cell_stays, character_is_cell, character_is_code, code_stays}
-use Rattle.scr_windows.proofs.TextLaws.{added_one}
+use Rattle.scr_windows.proofs.AddedLaws.{added_one}
 use Rattle.scr_windows.proofs.FittedLaws.{fitted_character, fitted_control, fitted_other}
 use Rattle.scr_windows.proofs.desks.Desk.add_fitted.Goals as goal
 

@@ -5,7 +5,7 @@ use Rattle.scr_windows.specs.DeskViews.{DeskView}
 use Rattle.scr_windows.specs.Code.Canvases.{IsSheetOf}
 use Rattle.scr_windows.specs.Calls.Adding.{either_stayed, text_added}
 use Rattle.scr_windows.proofs.AddingLaws.{code_stays}
-use Rattle.scr_windows.proofs.TextLaws.{added_one, added_part, text_done}
+use Rattle.scr_windows.proofs.AddedLaws.{added_one, added_part, text_done}
 use Rattle.scr_windows.proofs.FittedLaws.{replacement_is_character, replacements_cut, replacements_done}
 use Rattle.scr_windows.proofs.desks.Desk.add_replacements.Goals as goal
 
