@@ -34,18 +34,19 @@ same_here name kind position (Some known) x e =
       | inr h ↦ cc
     ]
 
-run_once : (rs : List Names) (i : ℕ) (r : Names) → runs_once rs ≡ true → slice_get rs i ≡ Some r → all_once r.kind r.first r.names ≡ true
+run_once : (rs : List Names) (i : ℕ) (r : Names) → runs_once runs rs ≡ true → slice_get rs i ≡ Some r → all_once runs r.kind r.first r.names ≡ true
 run_once [] i r e at = cc
 run_once (s ∷ rs) zero r e at =
     let same : r ≡ s = cc in
-    rw same (both (all_once s.kind s.first s.names) (runs_once rs) e).0
-run_once (s ∷ rs) (suc i) r e at = run_once rs i r (both (all_once s.kind s.first s.names) (runs_once rs) e).1 at
+    rw same (both (all_once runs s.kind s.first s.names) (runs_once runs rs) e).0
+run_once (s ∷ rs) (suc i) r e at = run_once rs i r (both (all_once runs s.kind s.first s.names) (runs_once runs rs) e).1 at
 
-right_in_run : (name : List ℕ) (index : ℕ) (o : Option Names) (x : Kind × ℕ) → ((r : Names) → o ≡ Some r → all_once r.kind r.first r.names ≡ true) → found_in_run name index o ≡ Some x → capability_of name ≡ Some x
+right_in_run : (name : List ℕ) (index : ℕ) (o : Option Names) (x : Kind × ℕ) → ((r : Names) → o ≡ Some r → all_once runs r.kind r.first r.names ≡ true) → found_in_run name index o ≡ Some x → capability_of name ≡ Some x
+unfolding capability_of
 right_in_run name index None x once e = cc
 right_in_run name index (Some r) x once e =
     let h = same_here name r.kind (r.first + index) (slice_get r.names index) x e in
-    rw h.1 (once_found r.kind r.first index r.names name (once r refl) h.0)
+    rw h.1 (once_found runs r.kind r.first index r.names name (once r refl) h.0)
 
 right_in : (name : List ℕ) (addresses : List (ℕ × ℕ)) (x : Kind × ℕ) → found_in name addresses ≡ Some x → capability_of name ≡ Some x
 right_in name [] x e = cc

@@ -1,5 +1,5 @@
 -- What an entry has after capabilities were set one after another.
-use Rattle.std.proofs.Common.{◌≡◌, ◌≢◌, ◌∙◌, ℕ, zero, suc, ◌+◌, ◌<◌, Bool, true, false, ◌&&◌, ◌||◌, ◌==◌, List, [], ◌∷◌, length, Option, Some, None, unwrap_or, option_map, map, replicate, get_or, set, cond, eqb, nat_lt, refl, sym, ap, inl, inr, arith}
+use Rattle.std.proofs.Common.{◌≡◌, ◌∙◌, ℕ, zero, suc, ◌<◌, Bool, true, false, ◌||◌, ◌==◌, List, [], ◌∷◌, length, Option, Some, None, unwrap_or, option_map, map, replicate, get_or, set, cond, eqb, nat_lt, refl, sym, ap, inl, inr, arith}
 use Rattle.std.specs.List.{list_all, list_any, AllPass}
 use Rattle.std.proofs.lemmas.List.{length-replicate, length-set, get_or-set_same, get_or-set_other}
 use Rattle.std.proofs.lemmas.List.Folds.{list_all-map}

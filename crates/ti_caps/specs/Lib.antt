@@ -1,3 +1,4 @@
+pub mod Adapted
 pub mod Buckets
 pub mod Bundled
 pub mod Cuts
@@ -6,4 +7,5 @@ pub mod Names
 pub mod NameRuns
 pub mod Settings
 pub mod Slots
+pub mod Standard
 pub mod Table

@@ -1,5 +1,5 @@
 -- How the code sets capabilities one after another; nobody has to read this.
-use Rattle.std.specs.Prelude.{ℕ, ◌≡◌, ◌<◌, ◌≤◌, Bool, true, List, [], ◌∷◌, Option, Some, map, slice_set, nat_lt, ◌&&◌, not}
+use Rattle.std.specs.Prelude.{ℕ, ◌<◌, ◌≤◌, Bool, true, List, [], ◌∷◌, Option, Some, map, slice_set, nat_lt, ◌&&◌, not}
 use Rattle.ti_caps.specs.declared.table.Slot.{Slot}
 use Rattle.ti_caps.specs.Description.{has_nul}
 

@@ -5,7 +5,7 @@ use Rattle.std.specs.Str.{bytes_eq}
 use Rattle.ti_caps.specs.declared.table.Kind.{Kind}
 use Rattle.ti_caps.specs.declared.table.Kind.TheVariants.{Flag, Number, Text}
 use Rattle.ti_caps.specs.declared.table.Slot.{Slot}
-use Rattle.ti_caps.specs.declared.slots.TheConstants.{AM, XHP, XENL, GN, HC, IN, DA, DB, MSGR, OS, XT, HZ, UL, SAM, COLS, LINES, XMC, COLORS, PAIRS, NCV, CR, CLEAR, EL, ED, HPA, CUP, CUD1, HOME, CUB1, CUF1, CUU1, DCH1, DL1, BLINK, BOLD, SMCUP, SMDC, DIM, INVIS, REV, SMSO, SMUL, ECH, SGR0, RMCUP, IL1, KBS, KCUD1, KCUB1, KCUF1, KCUU1, RMKX, SMKX, DCH, DL, CUD, ICH, INDN, IL, CUB, CUF, RIN, CUU, REP, VPA, IND, RI, SGR, OP, SETAF, SETAB}
+use Rattle.ti_caps.specs.declared.slots.TheConstants.{AM, XHP, XENL, GN, HC, IN, DA, DB, MSGR, OS, XT, HZ, UL, SAM, COLS, LINES, XMC, COLORS, PAIRS, NCV, CR, CLEAR, EL, ED, HPA, CUP, CUD1, HOME, CUB1, CUF1, CUU1, DCH1, DL1, BLINK, BOLD, SMCUP, SMDC, DIM, INVIS, REV, SMSO, SMUL, ECH, SGR0, RMCUP, ICH1, IL1, KBS, KCUD1, KCUB1, KCUF1, KCUU1, RMKX, SMKX, DCH, DL, CUD, ICH, INDN, IL, CUB, CUF, RIN, CUU, REP, VPA, IND, RI, SGR, OP, SETAF, SETAB}
 use Rattle.ti_caps.specs.Table.{name_at}
 
 -- The number of positions of a kind.
@@ -79,6 +79,7 @@ texts_are_named =
     ∷ is_slot_of Text ECH (codes "ech")
     ∷ is_slot_of Text SGR0 (codes "sgr0")
     ∷ is_slot_of Text RMCUP (codes "rmcup")
+    ∷ is_slot_of Text ICH1 (codes "ich1")
     ∷ is_slot_of Text IL1 (codes "il1")
     ∷ is_slot_of Text KBS (codes "kbs")
     ∷ is_slot_of Text KCUD1 (codes "kcud1")

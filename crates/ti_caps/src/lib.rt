@@ -1,6 +1,7 @@
 //! The capability table of terminfo(5), and entries, which say which capabilities a terminal has.
 #![tactic(auto)]
 
+mod adapted;
 mod buckets;
 mod bundle;
 mod bytes;
@@ -8,6 +9,7 @@ mod entry;
 mod faults;
 mod names;
 pub mod slots;
+pub mod standard;
 mod table;
 
 pub use buckets::find_name;

@@ -101,6 +101,8 @@ pub const ECH: Slot = Slot(37);
 pub const SGR0: Slot = Slot(39);
 /// `rmcup`.
 pub const RMCUP: Slot = Slot(40);
+/// `ich1`.
+pub const ICH1: Slot = Slot(52);
 /// `il1`.
 pub const IL1: Slot = Slot(53);
 /// `kbs`.

@@ -2,7 +2,7 @@
 
 ghost use Rattle.std.specs.Prelude.{ℕ, List, Some, ◌≡◌, ◌+◌, ◌<◌, length, option_map, slice_get, MatchOption, ⊤};
 ghost use Rattle.ti_caps.specs.Buckets.{if_same};
-ghost use Rattle.ti_caps.specs.Table.{capability_of, name_at, name_in, runs};
+ghost use Rattle.ti_caps.specs.Table.{capability_of, name_at, name_in, position_in, runs};
 ghost use Rattle.ti_caps.specs.NameRuns.{seen};
 ghost use Rattle.ti_caps.specs.declared.table.Kind.{Kind};
 
@@ -132,13 +132,26 @@ impl Run {
         }
     }
 
-    const fn new(kind: Kind, first: u16, names: &'static [&'static str]) -> Run
+    pub(crate) const fn new(kind: Kind, first: u16, names: &'static [&'static str]) -> Run
         ensures { result ≡ record { kind = kind; first = first; names = names.entry } }
     {
         Run { kind, first, names }
     }
 
-    fn name_at(&self, kind: Kind, position: u16) -> Option<&'static str>
+    /// The run's capability of this name.
+    pub(crate) fn find(&self, name: &[u8]) -> Option<(Kind, Slot)>
+        requires { self.now.first + length self.now.names.now < 65536 }
+        ensures { option_map (λ p. (p.0, p.1.0)) result ≡ position_in name.now (seen self.now) }
+    {
+        for (index, known) in self.names.iter().enumerate() {
+            if known.as_bytes() == name {
+                return Some((self.kind, Slot(self.first + index as u16)));
+            }
+        }
+        None
+    }
+
+    pub(crate) fn name_at(&self, kind: Kind, position: u16) -> Option<&'static str>
         ensures { option_map (λ s. s.now) result
             ≡ name_in kind position (seen self.now) }
     {
