@@ -56,6 +56,10 @@ folders_of variables =
     given (text_of variables.terminfo) ++ home_folder (text_of variables.home) ++ listed (text_of variables.terminfo_dirs)
     ++ system_folders
 
+-- The folder to look in first.
+abbrev pub first_folder_of : Variables → List ℕ
+first_folder_of variables = slice_index_or (folders_of variables) 0 []
+
 -- A path through two folders.
 abbrev pub path_below : List ℕ → List ℕ → List ℕ → List ℕ
 path_below folder inner name = folder ++ codes "/" ++ inner ++ codes "/" ++ name

@@ -1,7 +1,7 @@
 //! The folders in which compiled entries are looked for, in order.
 ghost use Rattle.std.specs.Prelude.{◌≡◌, ◌++◌, ◌∷◌, [], IfOk, OnOk};
 ghost use Rattle.std.specs.List.{flat_map, slice_split};
-ghost use Rattle.ti_database.specs.Places.{element_folders, folders_of, given, home_folder, is_colon, listed, system_folders, text_of};
+ghost use Rattle.ti_database.specs.Places.{element_folders, first_folder_of, folders_of, given, home_folder, is_colon, listed, system_folders, text_of};
 
 use crate::file_paths::{FilePath, FilePaths};
 use std::alloc::{AllocError, Global};
@@ -28,6 +28,14 @@ pub(crate) fn folders(alloc: Global, variables: &Variables) -> Result<FilePaths,
         Ok(()) => Ok(folders),
         Err(error) => Err(error),
     }
+}
+
+/// The first of the folders.
+pub(crate) fn first_of(alloc: Global, variables: &Variables) -> Result<FilePath, AllocError>
+    ensures { IfOk result (λ folder. folder ≡ first_folder_of variables.now) }
+{
+    let mut folders = folders(alloc, variables)?;
+    Ok(folders.0.swap_remove(0))
 }
 
 fn put_all(alloc: Global, variables: &Variables, folders: &mut FilePaths) -> Result<(), AllocError>

@@ -19,4 +19,4 @@ pub use memory::MemoryFiles;
 pub use reading::read_entry;
 pub use searching::{find_in, search};
 pub use stores::Store;
-pub use system::find;
+pub use system::{find, first_folder};

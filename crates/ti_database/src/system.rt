@@ -1,11 +1,12 @@
 //! Finding an entry among the files of the system, for programs.
 ghost use Rattle.std.specs.Prelude.{◌≡◌, ℕ, List, ◌⊎◌, ◌↔◌, IfErr, IfOk, IsErrOf, Option, Some, false};
-ghost use Rattle.ti_database.specs.Places.{is_terminal_name, paths_of};
+ghost use Rattle.ti_database.specs.Places.{first_folder_of, is_terminal_name, paths_of};
 ghost use Rattle.ti_database.specs.Search.{IsFound, search_fault};
 ghost use Rattle.ti_database.specs.declared.folders.Variables.{Variables};
 
 use crate::faults::DatabaseFault;
-use crate::folders::Variables;
+use crate::file_paths::FilePath;
+use crate::folders::{Variables, first_of};
 use crate::names::is_terminal_name;
 use crate::searching::find_in;
 use crate::stores::SystemFiles;
@@ -37,6 +38,21 @@ pub fn find<R: Files + Env + AllocGlobal>(rt: &R, name: &str) -> Result<Entry, D
     }
     let variables = variables_of(rt)?;
     find_in(rt.alloc(), &SystemFiles { rt }, name.as_bytes(), &variables)
+}
+
+/// The folder in which [`find`] looks first: what a compiled file is written below for the user's programs to find it
+/// (terminfo(5), 'Fetching Compiled Descriptions').
+///
+/// Refused with `NoMemory`.
+pub fn first_folder<R: Env + AllocGlobal>(rt: &R) -> Result<FilePath, DatabaseFault>
+    ensures folder { IfOk result (λ folder. (variables : Variables) × (folder ≡ first_folder_of variables)) }
+    ensures fault { IfErr result (λ fault. fault ≡ DatabaseFault.NoMemory) }
+{
+    let variables = variables_of(rt)?;
+    match first_of(rt.alloc(), &variables) {
+        Ok(folder) => Ok(folder),
+        Err(_) => Err(DatabaseFault::NoMemory),
+    }
 }
 
 // The variables as the environment has them.
