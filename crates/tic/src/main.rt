@@ -36,6 +36,7 @@ use std::io::Write;
 use std::process::ExitCode;
 use std::{env, io};
 use ti_compile::{Listing, TicFault, list};
+use ti_database::first_folder;
 use words::Task;
 
 fn main(rt: HostRuntime) -> ExitCode {
@@ -71,7 +72,13 @@ fn perform(rt: &HostRuntime, words: &[String]) -> u8 {
 fn perform_words(rt: &HostRuntime, version: &str, words: &[String]) -> u8 {
     match words::matches(rt.alloc(), version, words) {
         Ok(matches) => perform_task(rt, &matches),
-        Err(error) => refused(rt, &error),
+        Err(error) => {
+            let status = refused(rt, &error);
+            if words::are_operands(words) {
+                tell_folder(rt);
+            }
+            status
+        }
     }
 }
 
@@ -82,6 +89,15 @@ fn refused(rt: &HostRuntime, error: &clap::Error) -> u8 {
     }
     let _ = eprint!(rt; "{error}");
     2
+}
+
+// Prints what `tic FILE` lacks, and the folder in which programs look first.
+fn tell_folder(rt: &HostRuntime) {
+    if let Ok(folder) = first_folder(rt) {
+        let _ = eprintln!(rt;
+            "tic: -o DIR FILE writes compiled files below DIR; programs look in {folder} first"
+        );
+    }
 }
 
 fn perform_task(rt: &HostRuntime, matches: &ArgMatches<'_>) -> u8 {

@@ -104,6 +104,12 @@ pub(crate) fn task_of<'a>(matches: &ArgMatches<'a>) -> Option<Task<'a>> {
     }
 }
 
+/// Whether there are words after the program's name, and none is an option.
+pub(crate) fn are_operands(words: &[String]) -> bool {
+    let operands = words.get(1..).unwrap_or(&[]);
+    !operands.is_empty() && operands.iter().all(|word| !word.as_str().starts_with('-'))
+}
+
 /// Whether to print more on standard error.
 pub(crate) fn is_verbose(matches: &ArgMatches<'_>) -> bool {
     matches.get_flag("verbose")
