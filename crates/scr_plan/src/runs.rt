@@ -290,8 +290,8 @@ impl Scene<'_> {
     }
 
     // Where a stretch that begins in a place that differs ends: after its last place that differs.
-    // It goes on while the pen is the same, over at most as many places that do not differ as an
-    // easy motion has bytes.
+    // It goes on while the pen is the same, over places that do not differ if their characters have at
+    // most as many bytes as an easy motion.
     pub(crate) fn stretch_end(&self, line: &Line<'_>, start: u32, end: u32) -> u32
         requires line { IsLine self.now.picture.now line.now }
         requires start { start < end }
@@ -305,7 +305,7 @@ impl Scene<'_> {
         while after < end {
             let limit = end.min(after.saturating_add(jump).saturating_add(1));
             let next = self.next_unlike(line, after, limit, pen);
-            if next >= limit {
+            if next >= limit || self.has_more_bytes(line.cells, after, next, jump) {
                 return after;
             }
             after = self.unlike_end(line, next, end);

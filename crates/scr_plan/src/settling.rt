@@ -103,6 +103,7 @@ impl Draft {
         let shown = RowRuns {
             row: part.row,
             looks,
+            cells: scene.picture.row(part.row),
             runs: &runs.as_slice()[part.begun..part.after],
         };
         match slide_of(update, &self.cursor(), &shown, &mut room.looks)? {

@@ -89,7 +89,7 @@ pub(crate) fn slide_of(
     ensures slide { IfOk result (λ slide. IfSome slide (IsSlide (length shown.now.looks.now))) }
     ensures has { IfOk result (λ slide. IfSome slide (λ slide. has update.now.scene.profile.now (op_of slide) ≡ true)) }
 {
-    if !are_wide(shown) {
+    if !are_wide(shown, update.scene.painter.charset) {
         return Ok(None);
     }
     let prices = PricedRows::new(&update.scene, update.memory);

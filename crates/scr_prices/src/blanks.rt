@@ -1,7 +1,7 @@
 //! Rows over blanks: whether they are seen blank, and what they cost.
 //!
-//! There are two prices of a row over blanks. One counts its places, and has one motion for all of
-//! them: it is exact where the row is one stretch, and too low by a motion, or by the blanks between,
+//! There are two prices of a row over blanks. One counts the bytes of its characters, and has one motion
+//! for all of them: it is exact where the row is one stretch, and too low by a motion, or by the blanks between,
 //! for each stretch more. Shifts are compared by it. The other looks for the stretches: runs cost that
 //! much if pens and motions are about as usual. Erasures are compared by it, of which many gain little.
 ghost use Rattle.std.specs.Prelude.{◌<◌, ◌≤◌, length};
@@ -28,8 +28,8 @@ fn is_blank_cell(chooser: &Chooser<'_>, cell: Cell) -> bool {
 }
 
 impl Chooser<'_> {
-    // The price of a row over a blank one: its places that are not blank, plus an easy motion if
-    // there are any.
+    // The price of a row over a blank one: the characters of its places that are not blank, plus an
+    // easy motion if there are any.
     pub(crate) fn price_of_row(&self, row: u32) -> u32 {
         let mut places = 0u32;
         let mut unsure = 0u32;
@@ -45,7 +45,9 @@ impl Chooser<'_> {
         if places == 0 {
             return 0;
         }
-        places.saturating_add(self.jump)
+        places
+            .saturating_add(self.extra_of(cells))
+            .saturating_add(self.jump)
     }
 
     // How many cells look blank, though they are not.
@@ -70,7 +72,9 @@ pub(crate) fn least_on_blanks(chooser: &Chooser<'_>, cells: &[Cell]) -> u32 {
     if characters == 0 {
         return 0;
     }
-    characters.saturating_add(chooser.jump)
+    characters
+        .saturating_add(chooser.extra_of(cells))
+        .saturating_add(chooser.jump)
 }
 
 // The stretches of a row so far: the pen of the last one, the blanks after it, and the price of
@@ -93,8 +97,9 @@ impl Stretches {
         }
     }
 
-    // Goes on, or begins another stretch, with `count` places that have one pen.
-    fn add(&mut self, pen: Pen, count: usize) {
+    // Goes on, or begins another stretch, with `count` places that have one pen, whose characters have
+    // so many more bytes.
+    fn add(&mut self, pen: Pen, count: usize, extra: u32) {
         let count = count.min(u32::MAX as usize) as u32;
         let before = if self.pen == Some(pen) {
             self.blanks
@@ -103,7 +108,11 @@ impl Stretches {
         };
         self.pen = Some(pen);
         self.blanks = 0;
-        self.price = self.price.saturating_add(before).saturating_add(count);
+        self.price = self
+            .price
+            .saturating_add(before)
+            .saturating_add(count)
+            .saturating_add(extra);
     }
 }
 
@@ -127,7 +136,8 @@ pub(crate) fn price_on_blanks(chooser: &Chooser<'_>, cells: &[Cell]) -> u32 {
             if cells[column].code() == BLANK && pen.is_plain() {
                 stretches.add_blanks(end - column);
             } else {
-                stretches.add(pen, end - column);
+                let extra = chooser.extra_of(&cells[column..end]);
+                stretches.add(pen, end - column, extra);
             }
             column = end;
         }

@@ -1,12 +1,13 @@
 //! About what the places cost that differ between two rows of looks.
 
+use crate::lengths::extra_of_looks;
 use crate::ways::Chooser;
 use scr_cells::{Look, look_numbers};
 use scr_term::{FAR, Op};
 use std::simd::prelude::*;
 
-// How a row of looks becomes another: how many places differ, how many of these become blank, and
-// how many places are not blank then.
+// How a row of looks becomes another: how many bytes the characters of the places have that differ, how many of these
+// places become blank, and how many bytes the characters have that are not blank then.
 #[derive(Clone, Copy)]
 pub(crate) struct Counts {
     differing: u32,
@@ -59,8 +60,18 @@ impl Lanes {
 }
 
 impl Counts {
-    // Of the looks before and after: eight places at a time, and those that are left one by one.
-    pub(crate) fn of(before: &[Look], after: &[Look]) -> Counts {
+    // Of the looks before and after.
+    pub(crate) fn of(chooser: &Chooser<'_>, before: &[Look], after: &[Look]) -> Counts {
+        let mut counts = Counts::of_places(before, after);
+        if chooser.charset.is_utf8() {
+            counts.add_extra(before, after);
+        }
+        counts
+    }
+
+    // The same where each character has one byte: eight places at a time, and those that are left one by one.
+    #[inline(always)]
+    fn of_places(before: &[Look], after: &[Look]) -> Counts {
         let (olds, old_rest) = before.as_chunks::<8>();
         let (news, new_rest) = after.as_chunks::<8>();
         let mut lanes = Lanes::none();
@@ -81,6 +92,14 @@ impl Counts {
         self.differing = self.differing.wrapping_add(u32::from(is_other));
         self.blanked = self.blanked.wrapping_add(u32::from(is_other & !is_filled));
         self.filled = self.filled.wrapping_add(u32::from(is_filled));
+    }
+
+    // Adds the bytes beyond one that characters have in UTF-8.
+    #[inline(never)]
+    fn add_extra(&mut self, before: &[Look], after: &[Look]) {
+        let (of_differing, of_all) = extra_of_looks(before, after);
+        self.differing = self.differing.saturating_add(of_differing);
+        self.filled = self.filled.saturating_add(of_all);
     }
 
     // About what the places that differ cost: those that become blank may be erased together.

@@ -15,6 +15,7 @@
 
 mod blanks;
 mod counts;
+mod lengths;
 mod motions;
 mod order;
 mod rows;
@@ -27,6 +28,7 @@ mod ways;
 mod wipings;
 
 pub use blanks::is_blank;
+pub use lengths::extra_bytes;
 pub use motions::turns::{Turn, cheapest_turn};
 pub use motions::{Motion, cheapest_motion, motion_of_price};
 pub use order::cheapest_order;

@@ -5,7 +5,7 @@ ghost use Rattle.scr_prices.specs.declared.runs.Run.{Run};
 use crate::runs::Run;
 use crate::slides::Slide;
 use crate::ways::Chooser;
-use scr_cells::{Look, NoMemory};
+use scr_cells::{Cell, Look, NoMemory};
 
 /// A row that differs from what the terminal shows: in the first of these columns, and in none
 /// outside `start..end`.
@@ -49,13 +49,15 @@ pub trait RowPrices {
     ) -> Result<u32, NoMemory>;
 }
 
-/// A row, what it shows, and all of its runs over that.
+/// A row, what it shows, what is wanted there, and all of its runs.
 #[derive(Clone, Copy)]
 pub struct RowRuns<'a> {
     /// The row.
     pub row: u32,
     /// What it shows.
     pub looks: &'a [Look],
+    /// What is wanted there.
+    pub cells: &'a [Cell],
     /// Its runs, from the left.
     pub runs: &'a [Run],
 }

@@ -287,7 +287,7 @@ impl<P: RowPrices> Blocks<'_, P> {
             None => &[],
         };
         if is_known || prices.is_shown(row, coming) {
-            let counts = Counts::of(prices.looks(row), coming);
+            let counts = Counts::of(chooser, prices.looks(row), coming);
             let cost = i64::from(counts.price(chooser));
             return (cost, cost - i64::from(counts.price_of_filled(chooser)));
         }

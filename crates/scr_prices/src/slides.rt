@@ -3,14 +3,15 @@
 ghost use Rattle.std.specs.Prelude.{◌≡◌, ◌+◌, ◌≤◌, length, true};
 
 use crate::blanks::is_blank;
+use crate::lengths::extra_between;
 use crate::motions::cheapest_motion;
 use crate::rows::{RowPrices, RowRuns, price_of_runs};
 use crate::runs::{How, Run};
 use crate::ways::{Chooser, Cursor};
-use scr_cells::{Cell, Look, NoMemory};
+use scr_cells::{Cell, Charset, Look, NoMemory};
 use scr_term::{FAR, Op, Prices};
 
-// How many columns have to lie from the first to the last place of a row that differs, at least.
+// How many bytes the characters have to have from the first to the last place of a row that differs, at least.
 const WORTH_LOOKING: u32 = 6;
 
 // How many places in a row are looked for.
@@ -53,14 +54,19 @@ fn least_operation(prices: &Prices) -> u32 {
         .min(prices.of(Op::DeleteChars(2)))
 }
 
-/// Whether it is far enough from the first place of a row that differs to the last.
-pub fn are_wide(shown: &RowRuns<'_>) -> bool {
-    match (shown.runs.first(), shown.runs.last()) {
-        (Some(first), Some(last)) => {
-            end_of_differing(shown.looks, last).saturating_sub(first.start) >= WORTH_LOOKING
-        }
-        _ => false,
+/// Whether it is far enough from the first place of a row that differs to the last: the characters there have enough
+/// bytes.
+pub fn are_wide(shown: &RowRuns<'_>, charset: Charset) -> bool {
+    let (Some(first), Some(last)) = (shown.runs.first(), shown.runs.last()) else {
+        return false;
+    };
+    let end = end_of_differing(shown.looks, last);
+    let places = end.saturating_sub(first.start);
+    if places >= WORTH_LOOKING || !charset.is_utf8() {
+        return places >= WORTH_LOOKING;
     }
+    let extra = extra_between(shown.cells, first.start, end);
+    places.saturating_add(extra) >= WORTH_LOOKING
 }
 
 /// The slide of a row that saves most, if one saves enough. `room` is for a row that is put
@@ -138,7 +144,7 @@ fn first_column(shown: &RowRuns<'_>) -> u32 {
 // places between unchanged that terminfo(5) wants blank.
 fn insertion(chooser: &Chooser<'_>, shown: &RowRuns<'_>, column: u32) -> Option<Slide> {
     let looks = shown.looks;
-    let cells = chooser.cells(shown.row);
+    let cells = shown.cells;
     let from = column as usize;
     if looks.len() != cells.len() || !has_places(looks.len(), from) {
         return None;
@@ -162,7 +168,7 @@ fn insertion(chooser: &Chooser<'_>, shown: &RowRuns<'_>, column: u32) -> Option<
 // in the row.
 fn deletion(chooser: &Chooser<'_>, shown: &RowRuns<'_>, column: u32) -> Option<Slide> {
     let looks = shown.looks;
-    let cells = chooser.cells(shown.row);
+    let cells = shown.cells;
     let from = column as usize;
     if looks.len() != cells.len() || !has_places(looks.len(), from) {
         return None;

@@ -82,7 +82,7 @@ pub struct Chooser<'a> {
     /// What is to be shown.
     pub picture: &'a Picture,
     columns: u32,
-    charset: Charset,
+    pub(crate) charset: Charset,
     shown: Attrs,
     colours: bool,
     moves_in_any_rendition: bool,
@@ -168,13 +168,11 @@ impl<'a> Chooser<'a> {
         if from >= column {
             return None;
         }
-        let price = (column - from).saturating_add(goal.turn);
-        if price >= limit || !self.are_seen_with(cursor.pen, row, from, column) {
-            return None;
-        }
+        let left = limit.saturating_sub(goal.turn);
+        let bytes = self.bytes_below(cursor.pen, row, (from, column), left)?;
         Some(Way {
             path: Path::Writing(from),
-            price,
+            price: bytes.saturating_add(goal.turn),
         })
     }
 
@@ -186,16 +184,24 @@ impl<'a> Chooser<'a> {
             return None;
         }
         let motion = price_of_motion(self.prices, cursor.spot, row, 0);
-        let price = self
-            .price_of_moving(cursor, motion, goal)
-            .saturating_add(column);
-        if price >= limit || !self.are_seen_with(pen, row, 0, column) {
-            return None;
-        }
+        let price = self.price_of_moving(cursor, motion, goal);
+        let bytes = self.bytes_below(pen, row, (0, column), limit.saturating_sub(price))?;
         Some(Way {
             path: Path::MovingToWrite(motion),
-            price,
+            price: price.saturating_add(bytes),
         })
+    }
+
+    // How many bytes the characters have that are seen in a row from the first of two columns up to the second, if all
+    // of them are seen with a pen, and these are fewer bytes than the limit.
+    #[inline(always)]
+    fn bytes_below(&self, pen: Pen, row: u32, columns: (u32, u32), limit: u32) -> Option<u32> {
+        let (from, end) = columns;
+        if end.saturating_sub(from) >= limit || !self.are_seen_with(pen, row, from, end) {
+            return None;
+        }
+        let bytes = self.bytes_between(row, from, end);
+        if bytes < limit { Some(bytes) } else { None }
     }
 
     // The least that a way to a place costs from past the last column: it goes there at once, or to
@@ -207,7 +213,7 @@ impl<'a> Chooser<'a> {
             return at_once;
         }
         let to_write = price_of_motion(self.prices, margin, place.row, 0);
-        at_once.min(to_write.saturating_add(place.column))
+        at_once.min(to_write.saturating_add(self.bytes_between(place.row, 0, place.column)))
     }
 
     /// The cells of a row; none if there is no such row.
@@ -254,7 +260,7 @@ impl<'a> Chooser<'a> {
     pub(crate) fn price_of_painting(&self, run: &Run) -> u32 {
         let count = run.end.saturating_sub(run.start);
         match run.how {
-            How::Write => count,
+            How::Write => self.bytes_between(run.row, run.start, run.end),
             How::EraseLine => self.prices.of(Op::EraseLine),
             How::EraseChars => self.prices.of(Op::EraseChars(count)),
         }
