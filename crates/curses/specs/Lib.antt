@@ -1,4 +1,5 @@
 -- The definitions that the contracts of this crate cite.
+pub mod Adapted
 pub mod Code
 pub mod Cuts
 pub mod Forwarding

@@ -1,6 +1,7 @@
 //! A curses screen: windows, a virtual screen, updates that bring a terminal to it, and the keys of its keyboard.
 #![tactic(auto)]
 
+mod adapted;
 mod calls;
 mod faults;
 mod keyboard;
@@ -13,6 +14,7 @@ mod texts;
 mod updates;
 mod writers;
 
+pub use adapted::AdaptedEntry;
 pub use faults::{OpenFault, SendFault, Sent, UpdateFault};
 pub use opening::Opening;
 pub use screens::Screen;

@@ -98,9 +98,9 @@ impl Screen {
         self.desk.set_background(win, cell)
     }
 
-    /// Sets the background of a window, and replaces the old one in every cell: the old background's byte becomes the
-    /// new one's, its attributes are removed and the new ones added, and its colour pair becomes the new one. All lines
-    /// are touched.
+    /// Sets the background of a window, and replaces the old one in every cell: the old background's character becomes
+    /// the new one's, its attributes are removed and the new ones added, and its colour pair becomes the new one. All
+    /// lines are touched.
     ///
     /// Refused: NoWindow. X/Open Curses Issue 7, bkgd().
     pub fn change_background(&mut self, win: Win, cell: Cell) -> Result<(), WinFault>
