@@ -1,9 +1,9 @@
 -- What a writer takes of a text, piece by piece.
-use Rattle.std.proofs.Common.{◌≡◌, ℕ, ◌+◌, ◌-◌, ◌≤◌, ◌<◌, ◌==◌, ◌&&◌, not, Bool, true, false, sym, refl, ◌∙◌, ap, subst, arith, List, [], ◌++◌, append_assoc, length, take, drop, Option, None, Some, if◌then◌else◌}
-use Rattle.std.specs.Io.KnownBytes.{Appends, Keeps}
+use Rattle.std.proofs.Common.{◌≡◌, ℕ, ◌+◌, ◌-◌, ◌==◌, ◌&&◌, not, Bool, true, false, sym, refl, ◌∙◌, ap, subst, arith, List, ◌++◌, append_assoc, length, take, drop, Option, None, Some}
+use Rattle.std.specs.Io.KnownBytes.{Appends}
 use Rattle.std.proofs.Math.Seq.{take-add}
 use Rattle.std.proofs.lemmas.Bool.Decides.{nat_tests}
-use Rattle.std.proofs.lemmas.List.{append-nil, length-drop, take_all}
+use Rattle.std.proofs.lemmas.List.{length-drop, take_all}
 use Rattle.curses.specs.Writers.{counted}
 
 appends_more : (old between new : Option (List ℕ)) (x y : List ℕ) → Appends old between x → Appends between new y → Appends old new (x ++ y)

@@ -1,2 +1,3 @@
 mod CursorLaws
 mod SizeLaws
+pub mod LocaleLaws

@@ -1,5 +1,5 @@
 -- Reading the lines that tell a size, an end or a stop.
-use Rattle.std.proofs.Common.{◌≡◌, ◌≢◌, ℕ, zero, suc, ◌^◌, ◌<◌, ◌==◌, Bool, true, false, cond, refl, sym, ap, subst, ◌∙◌, arith, List, [], ◌∷◌, ◌++◌, length, length-append, drop, get_or, Option, Some, None, MatchOption}
+use Rattle.std.proofs.Common.{◌≡◌, ◌≢◌, ℕ, zero, suc, ◌<◌, ◌==◌, Bool, true, false, cond, refl, sym, ap, subst, ◌∙◌, arith, List, [], ◌∷◌, ◌++◌, length, length-append, drop, get_or, Option, Some, None, MatchOption}
 use Rattle.std.specs.Str.{IsAscii, IsUtf8}
 use Rattle.std.specs.Str.Parse.{AllDigits}
 use Rattle.std.proofs.lemmas.Bool.Decides.{nat_tests}
@@ -37,7 +37,7 @@ ascii [] n number = IsAscii-nil
 ascii (c ∷ cs) n number = ascii_by (c == 43) c cs refl number.digits.1
 
 -- A list is cut in one way at the first of its elements that is `c`.
-cut_once : (c : ℕ) (xs ys us vs : List ℕ) → ((i : ℕ) → i < length xs → get_or xs i 0 ≢ c) → ((i : ℕ) → i < length us → get_or us i 0 ≢ c) → xs ++ c ∷ ys ≡ us ++ c ∷ vs → (xs ≡ us) × (ys ≡ vs)
+pub cut_once : (c : ℕ) (xs ys us vs : List ℕ) → ((i : ℕ) → i < length xs → get_or xs i 0 ≢ c) → ((i : ℕ) → i < length us → get_or us i 0 ≢ c) → xs ++ c ∷ ys ≡ us ++ c ∷ vs → (xs ≡ us) × (ys ≡ vs)
 cut_once c [] ys [] vs none nil same = (refl, ap (λ l. drop 1 l) same)
 cut_once c [] ys (u ∷ us) vs none nil same = absurd (nil 0 (omega arith) (sym (ap (λ l. get_or l 0 0) same)))
 cut_once c (x ∷ xs) ys [] vs none nil same = absurd (none 0 (omega arith) (ap (λ l. get_or l 0 0) same))

@@ -1,5 +1,5 @@
 -- The cursor of a terminal: what a program asks of it, what is known of it, and what is sent for that.
-use Rattle.std.specs.Prelude.{◌≡◌, ℕ, ◌⊎◌, ◌||◌, not, Bool, true, false, List, [], length, take, Option, Some, None, if◌then◌else◌}
+use Rattle.std.specs.Prelude.{◌≡◌, ℕ, ◌⊎◌, ◌||◌, not, Bool, true, false, List, [], take, Option, Some, None}
 use Rattle.std.specs.Io.KnownBytes.{Appends}
 use Rattle.curses.specs.Writers.{WriterView, counted}
 use Rattle.ti_caps.specs.Description.{Description}

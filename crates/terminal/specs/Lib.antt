@@ -3,3 +3,4 @@ pub mod Events
 pub mod Inputs
 pub mod Lines
 pub mod Sizes
+pub mod Locales

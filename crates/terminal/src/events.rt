@@ -22,13 +22,15 @@ pub enum Event {
     Idle,
 }
 
-/// What was typed, as an event.
-pub(crate) fn event_of(typed: Typed) -> Event
-    ensures { result ≡ event_of typed }
-{
-    match typed {
-        Typed::Character(character) => Event::Character(character),
-        Typed::Key(slot) => Event::Key(Key::Slot(slot)),
-        Typed::Byte(byte) => Event::Key(Key::Byte(byte)),
+impl Event {
+    /// What was typed, as an event.
+    pub fn of(typed: Typed) -> Event
+        ensures { result ≡ event_of typed }
+    {
+        match typed {
+            Typed::Character(character) => Event::Character(character),
+            Typed::Key(slot) => Event::Key(Key::Slot(slot)),
+            Typed::Byte(byte) => Event::Key(Key::Byte(byte)),
+        }
     }
 }

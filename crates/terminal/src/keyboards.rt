@@ -2,9 +2,10 @@
 
 use curses::{Screen, Typed, TypedItems, TypedReader};
 
-/// Characters, keys and bytes, from the keys that a screen has read.
+/// Characters, keys and bytes, from the keys that a screen has read. A `TerminalScreen` has one; a program that gives a
+/// screen its bytes by itself reads by one of its own.
 #[derive(Drop)]
-pub(crate) struct Keyboard {
+pub struct Keyboard {
     reader: TypedReader,
     // What the last key decided, and was not taken yet.
     items: TypedItems,
@@ -12,7 +13,7 @@ pub(crate) struct Keyboard {
 
 impl Keyboard {
     /// Nothing is typed yet.
-    pub(crate) fn new() -> Keyboard {
+    pub fn new() -> Keyboard {
         Keyboard {
             reader: TypedReader::new(),
             items: TypedItems::empty(),
@@ -20,7 +21,7 @@ impl Keyboard {
     }
 
     /// What is typed next, as far as the keys that are there decide it.
-    pub(crate) fn next(&mut self, screen: &mut Screen) -> Option<Typed> {
+    pub fn next(&mut self, screen: &mut Screen) -> Option<Typed> {
         for _ in 0..usize::MAX {
             if let Some(typed) = self.items.next() {
                 return Some(typed);
@@ -31,8 +32,8 @@ impl Keyboard {
         None
     }
 
-    /// What is typed next if no more bytes follow those that wait.
-    pub(crate) fn next_at_once(&mut self, screen: &mut Screen) -> Option<Typed> {
+    /// What is typed next if no more bytes follow those that wait. Call it again until it gives `None`.
+    pub fn next_at_once(&mut self, screen: &mut Screen) -> Option<Typed> {
         if let Some(typed) = self.next(screen) {
             return Some(typed);
         }

@@ -1,94 +1,45 @@
 //! The screen of the terminal that a program runs on.
 
 use crate::cursors::Cursor;
-use crate::events::{Event, event_of};
+use crate::events::Event;
 use crate::faults::TerminalFault;
 use crate::input::Input;
 use crate::keyboards::Keyboard;
 use crate::lines::TerminalLine;
 use crate::outputs::TerminalOutput;
 use crate::received::Received;
-use curses::{Device, Entry, Key, OpenFault, Screen, Sent, Size, Typed, keys};
+use curses::{AdaptedEntry, Device, Key, OpenFault, Opening, Screen, Sent, Size, Typed, keys};
 use std::alloc::Global;
-use std::env;
-use std::env::VarError;
 use std::io::{BufWriter, Write};
 use std::time::{Duration, Instant};
 use ti_caps::slots;
-use ti_database::find;
 
 // The key that asks for suspension: `^Z`, as at a shell's own line.
 const SUSPEND: Event = Event::Key(Key::Byte(26));
 
-/// The screen of the terminal that a program runs on, from its opening to its close.
+/// The screen of the terminal that a program runs on, from its opening to its close. Its entry is taken as
+/// `AdaptedEntry` says: colours come before the attributes that they exclude, and where a character in the last column
+/// would scroll, the screen has one column less than the terminal.
 #[derive(Drop)]
 pub struct TerminalScreen {
-    entry: Entry,
-    line: TerminalLine,
-    received: Received,
-    keyboard: Keyboard,
+    pub(crate) entry: AdaptedEntry,
+    // How each screen on it is opened.
+    pub(crate) opening: Opening,
+    pub(crate) line: TerminalLine,
+    pub(crate) received: Received,
+    pub(crate) keyboard: Keyboard,
     // What `has_input` found to be typed.
-    waiting: Option<Typed>,
-    screen: Screen,
-    out: Device<BufWriter<TerminalOutput>>,
+    pub(crate) waiting: Option<Typed>,
+    pub(crate) screen: Screen,
+    pub(crate) out: Device<BufWriter<TerminalOutput>>,
     // Whether what was sent last went out whole, so that nothing is owed.
-    is_whole: bool,
+    pub(crate) is_whole: bool,
     // Whether it was started, and not closed since.
-    is_started: bool,
-    cursor: Cursor,
+    pub(crate) is_started: bool,
+    pub(crate) cursor: Cursor,
 }
 
 impl TerminalScreen {
-    /// Opens a screen of the terminal's size, or of the entry's own if nothing says what that is, on the entry of the
-    /// machine's database that `TERM` names, and starts it.
-    ///
-    /// Refused if `TERM` is not set, if there is no such entry or it cannot be served, if the standard input is a
-    /// terminal that is not in raw mode, or if memory runs out. Nothing was written then.
-    pub fn open(rt: &HostRuntime) -> Result<TerminalScreen, TerminalFault> {
-        let name = terminal_name(rt)?;
-        match find(rt, name.as_str()) {
-            Ok(entry) => TerminalScreen::open_named(rt, name, entry),
-            Err(fault) => Err(TerminalFault::Entry { name, fault }),
-        }
-    }
-
-    // Opens a screen on the entry of this name.
-    fn open_named(
-        rt: &HostRuntime,
-        name: String,
-        entry: Entry,
-    ) -> Result<TerminalScreen, TerminalFault> {
-        match TerminalScreen::open_entry(rt, entry) {
-            Err(TerminalFault::Open(OpenFault::NoMemory)) => Err(TerminalFault::NoMemory),
-            Err(TerminalFault::Open(fault)) => Err(TerminalFault::Unserved { name, fault }),
-            opened => opened,
-        }
-    }
-
-    /// Like `open`, on an entry that the caller supplies, such as the bundled one.
-    pub fn open_entry(rt: &HostRuntime, entry: Entry) -> Result<TerminalScreen, TerminalFault> {
-        let line = TerminalLine::open(rt)?;
-        if !line.is_ready(rt) {
-            return Err(TerminalFault::NotRaw);
-        }
-        let received = Received::new(rt.alloc())?;
-        let cursor = Cursor::new(rt.alloc(), &entry)?;
-        let out = device(rt.alloc(), line.output(rt))?;
-        let screen = Screen::open(rt.alloc(), &entry, line.size())?;
-        Ok(started(TerminalScreen {
-            entry,
-            line,
-            received,
-            keyboard: Keyboard::new(),
-            waiting: None,
-            screen,
-            out,
-            is_whole: false,
-            is_started: false,
-            cursor,
-        }))
-    }
-
     /// The screen.
     pub fn screen(&mut self) -> &mut Screen {
         &mut self.screen
@@ -194,7 +145,7 @@ impl TerminalScreen {
 
     // Ends the last line of a screen that stays, once.
     fn end_last_line(&mut self) {
-        if self.is_started && self.entry.text(slots::RMCUP).is_none() {
+        if self.is_started && self.entry.entry().text(slots::RMCUP).is_none() {
             let _ = self.out.writer.write_all(b"\r\n");
             let _ = self.out.writer.flush();
         }
@@ -228,7 +179,7 @@ impl TerminalScreen {
 
     // What it means that this was typed.
     fn pressed(&mut self, rt: &HostRuntime, typed: Typed) -> Result<Event, TerminalFault> {
-        let event = event_of(typed);
+        let event = Event::of(typed);
         if event == SUSPEND || event == Event::Key(keys::SUSPEND) {
             self.suspend(rt)
         } else {
@@ -262,7 +213,7 @@ impl TerminalScreen {
     // Like `turn`, with the next byte in place of a key.
     fn byte_turn(&mut self, rt: &HostRuntime) -> Result<Option<Event>, TerminalFault> {
         if let Some(typed) = self.waiting_typed() {
-            return Ok(Some(event_of(typed)));
+            return Ok(Some(Event::of(typed)));
         }
         if let Some(byte) = self.received.next() {
             return Ok(Some(Event::Key(Key::Byte(byte))));
@@ -336,51 +287,31 @@ impl TerminalScreen {
         self.follow_size(rt.alloc())
     }
 
-    // Opens a screen of the terminal's size, if it has changed. What a failed write left of a text is owed by the
+    // Opens a screen on a terminal of the new size, if it has changed. What a failed write left of a text is owed by the
     // old screen alone, which then stays.
     fn follow_size(&mut self, alloc: Global) -> Result<Option<Event>, TerminalFault> {
         let Some(size) = self.line.size() else {
             return Ok(None);
         };
-        if !self.is_whole || size == self.screen.screen() {
+        if !self.is_whole || self.entry.size_on(size) == Some(self.screen.screen()) {
             return Ok(None);
         }
-        match reopen(alloc, &self.entry, size, &mut self.screen) {
+        match reopen(alloc, &self.entry, size, self.opening, &mut self.screen) {
             Ok(()) => Ok(Some(Event::Resized)),
             Err(fault) => Err(TerminalFault::Open(fault)),
         }
     }
 }
 
-// Starts a screen. What a failed write leaves of the opening text is sent by the first update.
-fn started(opened: TerminalScreen) -> TerminalScreen {
-    let mut terminal = opened;
-    let _ = terminal.start();
-    terminal
-}
-
-// The name of the terminal.
-fn terminal_name(rt: &HostRuntime) -> Result<String, TerminalFault> {
-    match env::var(rt, "TERM") {
-        Ok(name) => Ok(name),
-        Err(VarError::OutOfMemory) => Err(TerminalFault::NoMemory),
-        Err(_) => Err(TerminalFault::NoName),
-    }
-}
-
-fn device(
+// Opens a screen on a terminal of this size in place of another.
+fn reopen(
     alloc: Global,
-    output: TerminalOutput,
-) -> Result<Device<BufWriter<TerminalOutput>>, TerminalFault> {
-    match BufWriter::new(alloc, output) {
-        Ok(writer) => Ok(Device::new(writer)),
-        Err(_) => Err(TerminalFault::NoMemory),
-    }
-}
-
-// Opens a screen of this size in place of another.
-fn reopen(alloc: Global, entry: &Entry, size: Size, screen: &mut Screen) -> Result<(), OpenFault> {
-    match Screen::open_sized(alloc, entry, size) {
+    entry: &AdaptedEntry,
+    size: Size,
+    opening: Opening,
+    screen: &mut Screen,
+) -> Result<(), OpenFault> {
+    match entry.open(alloc, Some(size), opening) {
         Ok(opened) => {
             put(screen, opened);
             Ok(())

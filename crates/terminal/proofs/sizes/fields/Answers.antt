@@ -1,5 +1,5 @@
 -- A line without its line feed, cut at its first blank.
-use Rattle.std.proofs.Common.{◌≡◌, ◌++◌, ◌∷◌, [], None, Some, arith, rules, ◌≢◌, ℕ}
+use Rattle.std.proofs.Common.{◌≡◌, ◌++◌, ◌∷◌, None, Some, arith, rules}
 use Rattle.std.proofs.lemmas.Str.Pattern.{strip_suffix_char}
 use Rattle.terminal.proofs.SizeLaws.{fields_of}
 use Rattle.terminal.proofs.sizes.fields.Goals as goal
