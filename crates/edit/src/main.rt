@@ -1,10 +1,12 @@
 //! `edit`: edits a text file on the terminal.
 //!
 //! `run-on-terminal edit FILE` opens FILE on the terminal that `TERM` names, with its entry from the machine's terminfo
-//! database; with `--bundled` the bundled entry is used. Every byte of a file is kept: one outside the printable
-//! characters is shown as `^X` or `\ooo`, and a tab as blanks. `^S` saves, `^O` saves under another name, `^X` leaves, `^F`
-//! and `^N` find, `^K` cuts a line, `^U` pastes, Alt-U undoes, Alt-E does again, `^V` inserts the next byte as it is, `^L`
-//! paints anew, `^Z` suspends. `edit +LINE FILE` begins in that line; with `-w 72` lines are wrapped at column 72.
+//! database; with `--bundled` the bundled entry is used. A file in UTF-8 is shown and edited as its characters of one
+//! column, where the terminal speaks UTF-8: the locale says so, or `--utf8` does. Every byte of a file is kept: one of
+//! what is no such character is shown as `^X` or `\ooo`, and a tab as blanks. `^S` saves, `^O` saves under another name,
+//! `^X` leaves, `^F` and `^N` find, `^K` cuts a line, `^U` pastes, Alt-U undoes, Alt-E does again, `^V` inserts the next
+//! byte as it is, `^L` paints anew, `^Z` suspends. `edit +LINE FILE` begins in that line; with `-w 72` lines are wrapped
+//! at column 72.
 //!
 //! With `--script` the keys come from a script on standard input, and what an emulated terminal shows is printed. The
 //! status is 0, 1 for an error and 2 for a usage error.
@@ -95,9 +97,9 @@ fn edit_file(rt: &HostRuntime, task: Task<'_>) -> Result<(), EditFailure> {
 // Runs the editor, by a script or on the terminal.
 fn edit(rt: &HostRuntime, task: Task<'_>, editor: &mut Editor) -> Result<(), EditFailure> {
     if task.script {
-        return edit_by_script(rt, task.file, editor);
+        return edit_by_script(rt, task.file, task.charset(), editor);
     }
-    let ended = edit_on_terminal(rt, task.file, task.bundled, editor);
+    let ended = edit_on_terminal(rt, task.file, task.terminal(), editor);
     if ended.is_err() && editor.is_changed() {
         save_lost(rt, task.file, editor);
     }

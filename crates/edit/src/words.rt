@@ -1,6 +1,7 @@
 //! The command line.
 
 use clap::{Arg, ArgAction, ArgMatches, Command, Error};
+use edit_screen::{Charset, Terminal};
 use program_input::VERSION;
 use std::alloc::{AllocError, Global};
 
@@ -11,12 +12,33 @@ pub(crate) struct Task<'a> {
     pub(crate) file: &'a str,
     /// The bundled entry is used, whatever `TERM` names.
     pub(crate) bundled: bool,
+    /// The terminal speaks UTF-8, whatever the locale says.
+    pub(crate) utf8: bool,
     /// A script of keys is read from standard input, and the emulated terminal is printed.
     pub(crate) script: bool,
     /// The line in which the cursor is at first, counted from 1.
     pub(crate) line: usize,
     /// The column at which lines that become longer are wrapped, if they are.
     pub(crate) wrap: Option<usize>,
+}
+
+impl Task<'_> {
+    /// The charset of the emulated terminal of a script.
+    pub(crate) fn charset(&self) -> Charset {
+        if self.utf8 {
+            Charset::Utf8
+        } else {
+            Charset::Ascii
+        }
+    }
+
+    /// The terminal that the editor is run on.
+    pub(crate) fn terminal(&self) -> Terminal {
+        Terminal {
+            is_bundled: self.bundled,
+            is_utf8: self.utf8,
+        }
+    }
 }
 
 /// The least column at which lines can be wrapped.
@@ -51,6 +73,7 @@ fn command<'a>(alloc: Global) -> Result<Command<'a>, AllocError> {
         )
         .arg(bundled(alloc))?
         .arg(script(alloc))?
+        .arg(utf8(alloc))?
         .arg(wrap(alloc))?
         .arg(file(alloc))
 }
@@ -61,6 +84,14 @@ fn bundled<'a>(alloc: Global) -> Arg<'a> {
         .long("bundled")
         .action(ArgAction::SetTrue)
         .help("Uses the bundled ECMA-48 entry, whatever TERM names")
+}
+
+fn utf8<'a>(alloc: Global) -> Arg<'a> {
+    Arg::new(alloc, "utf8")
+        .short('u')
+        .long("utf8")
+        .action(ArgAction::SetTrue)
+        .help("The terminal speaks UTF-8, whatever the locale says")
 }
 
 fn script<'a>(alloc: Global) -> Arg<'a> {
@@ -96,6 +127,7 @@ pub(crate) fn task_of<'a>(matches: &ArgMatches<'a>, line: usize) -> Option<Task<
     Some(Task {
         file: matches.get_str("file")?,
         bundled: matches.get_flag("bundled"),
+        utf8: matches.get_flag("utf8"),
         script: matches.get_flag("script"),
         line,
         wrap,

@@ -1,25 +1,25 @@
 //! Changes of the text: typing, deleting, lines that are cut and pasted, undoing and doing again.
 
 use crate::editor::Editor;
-use crate::history::{Change, Step, is_up_to, place_after};
+use crate::history::{Change, LINE_FEED, Step, is_up_to, place_after};
 use crate::messages::Message;
 use crate::view::{is_blank, last_break};
-use edit_text::{EditFault, Place};
+use edit_text::{EditFault, Part, Place, first_part};
 
 impl Editor {
-    /// Inserts a byte at the cursor; a line feed splits the line. A line that becomes too long is broken before its
-    /// last word, where lines are to be wrapped.
-    pub(crate) fn insert(&mut self, byte: u8) {
-        if self.insert_at(self.cursor, byte, Step::Word) && !is_blank(byte) {
+    /// Inserts a character or a byte at the cursor; a line feed splits the line. A line that becomes too long is broken
+    /// before its last word, where lines are to be wrapped.
+    pub(crate) fn insert(&mut self, part: Part) {
+        if self.insert_at(self.cursor, part, Step::Word) && !is_blank(part) {
             self.wrap();
-            self.history.settle(Change::Inserted(byte), self.cursor);
+            self.history.settle(Change::Inserted(part), self.cursor);
         }
     }
 
     /// Deletes what is at a place, if anything, and moves the cursor there.
     pub(crate) fn delete(&mut self, place: Place) {
-        if let Some(byte) = self.byte_at(place) {
-            self.delete_at(place, byte, Step::Word);
+        if let Some(part) = self.text.part_at(place) {
+            self.delete_at(place, part, Step::Word);
         }
     }
 
@@ -55,13 +55,17 @@ impl Editor {
             self.message = Message::NothingToPaste;
         }
         let mut step = Step::New;
-        for i in 0..self.cut_text.len() {
-            let Some(&byte) = self.cut_text.get(i) else {
+        let mut place = self.cursor;
+        let mut pasted = 0usize;
+        for _ in 0..self.cut_text.len() {
+            let Some(part) = first_part(self.cut_text.get(pasted..).unwrap_or(&[])) else {
                 break;
             };
-            if !self.insert_at(self.cursor, byte, step) {
+            if !self.insert_at(place, part, step) {
                 break;
             }
+            place = place_after(place, part);
+            pasted = pasted.saturating_add(part.len());
             step = Step::Same;
         }
         self.history.end_step();
@@ -115,14 +119,14 @@ impl Editor {
         }
     }
 
-    // Inserts a byte at a place, and moves the cursor after it. Answers whether it was done.
-    fn insert_at(&mut self, place: Place, byte: u8, step: Step) -> bool {
-        self.make(place, Change::Inserted(byte), step)
+    // Inserts a part at a place, and moves the cursor after it. Answers whether it was done.
+    fn insert_at(&mut self, place: Place, part: Part, step: Step) -> bool {
+        self.make(place, Change::Inserted(part), step)
     }
 
-    // Deletes the byte that is at a place, and moves the cursor there. Answers whether it was done.
-    fn delete_at(&mut self, place: Place, byte: u8, step: Step) -> bool {
-        self.make(place, Change::Deleted(byte), step)
+    // Deletes the part that is at a place, and moves the cursor there. Answers whether it was done.
+    fn delete_at(&mut self, place: Place, part: Part, step: Step) -> bool {
+        self.make(place, Change::Deleted(part), step)
     }
 
     // Makes an edit, so that it can be undone. Answers whether it was made, and says why if it was not.
@@ -157,28 +161,18 @@ impl Editor {
     // Changes the text, and gives the place where the edit ends.
     fn change_text(&mut self, place: Place, change: Change) -> Result<Place, EditFault> {
         match change {
-            Change::Inserted(byte) => {
-                if byte == b'\n' {
+            Change::Inserted(part) => {
+                if part == LINE_FEED {
                     self.text.split(place)?;
                 } else {
-                    self.text.insert(place, byte)?;
+                    self.text.insert(place, part)?;
                 }
-                Ok(place_after(place, byte))
+                Ok(place_after(place, part))
             }
             Change::Deleted(_) => {
                 let _ = self.text.delete(place)?;
                 Ok(place)
             }
-        }
-    }
-
-    // The byte at a place, a line feed at the end of a line; `None` at the end of the text.
-    fn byte_at(&self, place: Place) -> Option<u8> {
-        let line = self.text.line(place.line)?;
-        match line.get(place.column) {
-            Some(&byte) => Some(byte),
-            None if place.line.saturating_add(1) < self.text.line_count() => Some(b'\n'),
-            None => None,
         }
     }
 
@@ -200,18 +194,20 @@ impl Editor {
     // Deletes a line, from its end on.
     fn delete_line(&mut self, line: usize, length: usize, has_end: bool) {
         let mut step = Step::New;
-        for i in 0..length {
-            let column = length - 1 - i;
-            let Some(byte) = self.byte_at(Place { line, column }) else {
-                break;
+        let mut column = length;
+        for _ in 0..length {
+            let part = match self.text.part_before(Place { line, column }) {
+                Some(part) if column > 0 => part,
+                _ => break,
             };
-            if !self.delete_at(Place { line, column }, byte, step) {
+            column = column.saturating_sub(part.len());
+            if !self.delete_at(Place { line, column }, part, step) {
                 break;
             }
             step = Step::Same;
         }
         if has_end && self.text.line_length(line) == 0 {
-            self.delete_at(Place { line, column: 0 }, b'\n', step);
+            self.delete_at(Place { line, column: 0 }, LINE_FEED, step);
         }
         self.history.end_step();
     }
@@ -240,11 +236,11 @@ impl Editor {
             .cursor
             .column
             .saturating_sub(blank.column.saturating_add(1));
-        let Some(byte) = self.byte_at(blank) else {
+        let Some(part) = self.text.part_at(blank) else {
             return;
         };
-        let start = place_after(blank, b'\n');
-        if self.insert_at(blank, b'\n', Step::Same) && self.delete_at(start, byte, Step::Same) {
+        let start = place_after(blank, LINE_FEED);
+        if self.insert_at(blank, LINE_FEED, Step::Same) && self.delete_at(start, part, Step::Same) {
             self.go_to(Place {
                 line: start.line,
                 column: left,

@@ -1,7 +1,9 @@
 //! What each key asks the editor to do.
 
+use crate::history::LINE_FEED;
 use crate::sequences::Sequence;
 use curses::{Key, keys};
+use edit_text::Part;
 
 /// Where the cursor goes.
 #[derive(Clone, Copy)]
@@ -22,7 +24,7 @@ pub(crate) enum Command {
     // The key has no command.
     Unknown,
     // A line feed splits the line.
-    Insert(u8),
+    Insert(Part),
     // The next byte is inserted, whatever it is.
     InsertNext,
     DeleteBefore,
@@ -56,7 +58,7 @@ pub(crate) fn command_of(key: Key) -> Command {
         keys::PAGE_DOWN => Command::Move(Motion::PageDown),
         keys::BACKSPACE => Command::DeleteBefore,
         keys::DELETE => Command::DeleteHere,
-        keys::ENTER => Command::Insert(b'\n'),
+        keys::ENTER => Command::Insert(LINE_FEED),
         keys::FIND => Command::Find,
         keys::UNDO => Command::Undo,
         keys::REDO => Command::Redo,
@@ -73,8 +75,8 @@ pub(crate) fn command_of(key: Key) -> Command {
 fn command_of_byte(byte: u8) -> Command {
     match byte {
         8 | 127 => Command::DeleteBefore,
-        10 | 13 => Command::Insert(b'\n'),
-        9 | 32..=126 | 128..=255 => Command::Insert(byte),
+        10 | 13 => Command::Insert(LINE_FEED),
+        9 | 32..=126 | 128..=255 => Command::Insert(Part::Byte(byte)),
         _ => command_of_control(byte ^ 64),
     }
 }

@@ -2,8 +2,11 @@
 
 use crate::editor::{Editor, Mode};
 use crate::hints::hints_of;
-use crate::view::{BLANKS, column_of, first_shown, form_of, printable_length, width_at};
+use crate::view::{
+    BLANKS, column_of, cut_part, first_shown, form_of, parts_before, printable_length, width_at,
+};
 use curses::{Attrs, Screen, Size, Win};
+use edit_text::Part;
 
 /// The colours of the last row, as a pair.
 const STATUS_PAIR: u32 = 1;
@@ -116,24 +119,47 @@ fn draw_text_row(screen: &mut Screen, editor: &Editor, row: u32, columns: usize)
 fn draw_bytes(screen: &mut Screen, bytes: &[u8], room: &mut Room) {
     let mut rest = bytes;
     for _ in 0..bytes.len() {
-        if rest.is_empty() || room.left == 0 {
+        if room.left == 0 {
             return;
         }
         let printable = printable_length(rest);
-        rest = if printable > 0 {
+        if printable > 0 {
             draw_piece(screen, rest.get(..printable).unwrap_or(rest), room);
-            rest.get(printable..).unwrap_or(&[])
-        } else {
-            draw_form(screen, rest[0], room);
-            &rest[1..]
+        }
+        let Some((part, after)) = cut_part(rest.get(printable..).unwrap_or(&[])) else {
+            return;
         };
+        draw_part(screen, part, room);
+        rest = after;
     }
+}
+
+// Draws a part that is not a printable character of ASCII, if there is room.
+fn draw_part(screen: &mut Screen, part: Part, room: &mut Room) {
+    if room.left == 0 {
+        return;
+    }
+    match part {
+        Part::Character(character) => draw_character(screen, character, room),
+        Part::Byte(byte) => draw_form(screen, byte, room),
+    }
+}
+
+// Draws a character above ASCII, if it is not left out. A terminal that has ASCII alone shows what stands for it.
+fn draw_character(screen: &mut Screen, character: char, room: &mut Room) {
+    room.column = room.column.saturating_add(1);
+    if room.skipped > 0 {
+        room.skipped -= 1;
+        return;
+    }
+    let _ = screen.add_character(Win(0), character, Attrs(0));
+    room.left = room.left.saturating_sub(1);
 }
 
 // Draws the form of a byte that is not printable in bold, to tell it from the same characters in the text. A tab is
 // blanks.
 fn draw_form(screen: &mut Screen, byte: u8, room: &mut Room) {
-    let width = width_at(room.column, byte);
+    let width = width_at(room.column, Part::Byte(byte));
     if byte == b'\t' {
         draw_piece(screen, BLANKS.get(..width).unwrap_or(&BLANKS), room);
         return;
@@ -209,7 +235,8 @@ fn draw_state(screen: &mut Screen, editor: &Editor, room: &mut Room) {
     draw_piece(screen, b"  line ", room);
     draw_number(screen, editor.cursor.line.saturating_add(1), room);
     draw_piece(screen, b" column ", room);
-    draw_number(screen, editor.cursor.column.saturating_add(1), room);
+    let before = parts_before(editor.line(), editor.cursor.column);
+    draw_number(screen, before.saturating_add(1), room);
 }
 
 // Draws the end of bytes, as much of it as some columns show.

@@ -4,24 +4,24 @@ use crate::commands::{Command, command_of, command_of_meta};
 use crate::history::History;
 use crate::keeping::Kept;
 use crate::messages::Message;
-use crate::questions::{Typed, typed_at};
+use crate::questions::{Typed, typed_at, typed_character_at};
 use crate::saving::Seen;
 use crate::sequences::Sequence;
 use crate::view::column_of;
 use curses::Key;
-use edit_text::{Place, Text};
+use edit_text::{Part, Place, Text};
 use std::alloc::Global;
 
 /// How the next key is read.
 #[derive(Clone, Copy, PartialEq, Eq)]
 pub(crate) enum Mode {
-    /// As a command, or as a byte of the text.
+    /// As a command, or as a character of the text.
     Text,
     /// Not at all: the next byte of the keyboard is inserted as it is.
     Literal,
-    /// As a byte of what is looked for.
+    /// As a character of what is looked for.
     Find,
-    /// As a byte of the name that the text is to be saved under.
+    /// As a character of the name that the text is to be saved under.
     Name,
     /// As in `Text`; but `^X` leaves now, with the text not saved.
     Leaving,
@@ -165,6 +165,19 @@ impl Editor {
         self.press_command(command_of(key))
     }
 
+    /// Inserts a character above ASCII that was typed, or takes it as a part of an answer.
+    pub(crate) fn take_character(&mut self, character: char) -> Request {
+        self.sequence = Sequence::Outside;
+        self.message = Message::Nothing;
+        if self.is_asking() {
+            let typed = typed_character_at(&mut self.answer, character);
+            if let Some(request) = self.settle_answer(typed) {
+                return request;
+            }
+        }
+        self.press_command(Command::Insert(Part::Character(character)))
+    }
+
     /// Whether a sequence of bytes has begun that are not text; a pause ends it.
     pub(crate) fn is_in_sequence(&self) -> bool {
         self.sequence != Sequence::Outside
@@ -180,7 +193,7 @@ impl Editor {
         self.message = Message::Nothing;
         self.mode = Mode::Text;
         self.is_cutting = false;
-        self.insert(byte);
+        self.insert(Part::Byte(byte));
     }
 
     // Reads a key of what a question asks for, if there is one; enter ends it. `None` if it was not one: any other key
@@ -189,7 +202,13 @@ impl Editor {
         if !self.is_asking() {
             return None;
         }
-        match typed_at(&mut self.answer, key) {
+        let typed = typed_at(&mut self.answer, key);
+        self.settle_answer(typed)
+    }
+
+    // What a key asks for that was typed at a question; `None` if it was not for the question.
+    fn settle_answer(&mut self, typed: Typed) -> Option<Request> {
+        match typed {
             Typed::Ended => Some(self.answer_question()),
             Typed::Taken => Some(Request::Nothing),
             Typed::NoMemory => {
@@ -253,7 +272,7 @@ impl Editor {
 
     fn change(&mut self, command: Command) {
         match command {
-            Command::Insert(byte) => self.insert(byte),
+            Command::Insert(part) => self.insert(part),
             Command::InsertNext => self.mode = Mode::Literal,
             Command::DeleteBefore => self.delete_before(),
             Command::DeleteHere => self.delete(self.cursor),

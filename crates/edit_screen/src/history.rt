@@ -1,14 +1,17 @@
 //! What was done to the text, so that it is undone, and done again, by words.
 
 use crate::view::is_blank;
-use edit_text::Place;
+use edit_text::{Part, Place};
 use std::alloc::{AllocError, Global};
+
+/// What ends a line.
+pub(crate) const LINE_FEED: Part = Part::Byte(b'\n');
 
 /// What an edit did at a place. A line feed that is inserted splits the line; one that is deleted joins the next line.
 #[derive(Clone, Copy)]
 pub(crate) enum Change {
-    Inserted(u8),
-    Deleted(u8),
+    Inserted(Part),
+    Deleted(Part),
 }
 
 /// The step that an edit belongs to. What is undone, or done again, is a whole step.
@@ -125,25 +128,25 @@ impl History {
     // Whether an edit goes on typing, or deleting, the word that the last one was in.
     fn goes_on(&self, place: Place, change: Change) -> bool {
         match (self.last_change, change) {
-            (Some((Change::Inserted(before), end)), Change::Inserted(byte)) => {
-                !begins_word(before, byte) && place == end
+            (Some((Change::Inserted(before), end)), Change::Inserted(part)) => {
+                !begins_word(before, part) && place == end
             }
-            (Some((Change::Deleted(before), end)), Change::Deleted(byte)) => {
-                !begins_word(before, byte) && (place == end || place_after(place, byte) == end)
+            (Some((Change::Deleted(before), end)), Change::Deleted(part)) => {
+                !begins_word(before, part) && (place == end || place_after(place, part) == end)
             }
             _ => false,
         }
     }
 }
 
-// Whether a word begins with a byte after another.
-fn begins_word(before: u8, byte: u8) -> bool {
-    is_blank(before) && !is_blank(byte)
+// Whether a word begins with a part after another.
+fn begins_word(before: Part, part: Part) -> bool {
+    is_blank(before) && !is_blank(part)
 }
 
-/// The place after a byte that is at a place.
-pub(crate) fn place_after(place: Place, byte: u8) -> Place {
-    if byte == b'\n' {
+/// The place after a part that is at a place.
+pub(crate) fn place_after(place: Place, part: Part) -> Place {
+    if part == LINE_FEED {
         return Place {
             line: place.line.saturating_add(1),
             column: 0,
@@ -151,7 +154,7 @@ pub(crate) fn place_after(place: Place, byte: u8) -> Place {
     }
     Place {
         line: place.line,
-        column: place.column.saturating_add(1),
+        column: place.column.saturating_add(part.len()),
     }
 }
 

@@ -23,9 +23,10 @@ mod sequences;
 mod terminals;
 mod view;
 
+pub use curses::Charset;
 pub use editor::Editor;
 pub use failures::EditFailure;
 pub use keeping::rescue;
 pub use saving::{ReadFault, SaveFault};
 pub use scripts::edit_by_script;
-pub use terminals::edit_on_terminal;
+pub use terminals::{Terminal, edit_on_terminal};

@@ -3,7 +3,7 @@
 use crate::answering::answer_request;
 use crate::drawing::{draw, prepare, text_rows};
 use crate::editor::{Editor, Mode, Request};
-use curses::{Key, Screen, Win, WinFault};
+use curses::{Screen, Win, WinFault};
 use terminal::{Event, Program};
 
 /// After so many tenths of a second without a key a changed text is copied beside its file.
@@ -53,26 +53,15 @@ impl<'a> Session<'a> {
         }
     }
 
-    // Does what a key asks for. Answers whether the editor goes on.
-    fn answer_key(&mut self, key: Key) -> bool {
-        match self.editor.take_key(key) {
+    // Does what a key or a character asks for. Answers whether the editor goes on.
+    fn answer_request(&mut self, request: Request) -> bool {
+        match request {
             Request::Leave => {
                 self.editor.forget_kept(self.rt);
                 return false;
             }
             Request::Repaint => self.repaints = true,
             request => answer_request(self.rt, self.path, self.editor, request),
-        }
-        true
-    }
-
-    // Does what the bytes of a character ask for, one by one.
-    fn answer_character(&mut self, character: char) -> bool {
-        let mut bytes = [0; 4];
-        for byte in character.encode_utf8(&mut bytes).bytes() {
-            if !self.answer_key(Key::Byte(byte)) {
-                return false;
-            }
         }
         true
     }
@@ -93,8 +82,14 @@ impl Program for Session<'_> {
 
     fn answer(&mut self, event: Event) -> bool {
         match event {
-            Event::Key(key) => return self.answer_key(key),
-            Event::Character(character) => return self.answer_character(character),
+            Event::Key(key) => {
+                let request = self.editor.take_key(key);
+                return self.answer_request(request);
+            }
+            Event::Character(character) => {
+                let request = self.editor.take_character(character);
+                return self.answer_request(request);
+            }
             Event::Resized => self.is_new = true,
             Event::Idle => self.pass_time(),
             Event::Continued => {}

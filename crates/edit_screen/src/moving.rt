@@ -2,6 +2,7 @@
 
 use crate::commands::Motion;
 use crate::editor::Editor;
+use crate::history::place_after;
 use crate::view::bytes_before;
 use edit_text::Place;
 
@@ -11,9 +12,10 @@ impl Editor {
         self.go_to_line(line.saturating_sub(1));
     }
 
-    /// Moves the cursor to a place, whose column it keeps to from then on.
+    /// Moves the cursor to a place, whose column it keeps to from then on. It is never within a character: it goes to
+    /// the beginning of one that the place is within.
     pub(crate) fn go_to(&mut self, place: Place) {
-        self.cursor = place;
+        self.cursor = self.text.part_start(place);
         self.goal = self.column();
     }
 
@@ -64,12 +66,11 @@ impl Editor {
 
     /// The place before the cursor: `None` at the beginning of the text.
     pub(crate) fn place_before(&self) -> Option<Place> {
+        let part = self.text.part_before(self.cursor)?;
         let Place { line, column } = self.cursor;
         if column > 0 {
-            return Some(Place {
-                line,
-                column: column - 1,
-            });
+            let column = column.saturating_sub(part.len());
+            return Some(Place { line, column });
         }
         let line = line.checked_sub(1)?;
         let column = self.text.line_length(line);
@@ -78,18 +79,8 @@ impl Editor {
 
     // The place after the cursor: `None` at the end of the text.
     fn place_after(&self) -> Option<Place> {
-        let Place { line, column } = self.cursor;
-        if column < self.line().len() {
-            return Some(Place {
-                line,
-                column: column.saturating_add(1),
-            });
-        }
-        let line = line.saturating_add(1);
-        if line < self.text.line_count() {
-            return Some(Place { line, column: 0 });
-        }
-        None
+        let part = self.text.part_at(self.cursor)?;
+        Some(place_after(self.cursor, part))
     }
 
     /// Shows the lines around the cursor, its own among them.

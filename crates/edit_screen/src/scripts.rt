@@ -2,17 +2,18 @@
 //!
 //! A script has one command a line. `size R C` comes first, and again where the terminal is resized; `type TEXT` types
 //! the characters of TEXT, `key HH ..` bytes of the keyboard in hexadecimal; `idle` says that none came for a while;
-//! `show` prints what the terminal shows.
+//! `show` prints what the terminal shows. The terminal has ASCII alone, or speaks UTF-8.
 
 use crate::editor::{Editor, Mode};
 use crate::failures::EditFailure;
 use crate::living::Session;
 use crate::messages::Message;
-use curses::{Device, EcmaScreen, Entry, Key, Screen, Size, bundled};
+use curses::{Charset, Device, EcmaScreen, Key, Opening, Screen, Size, bundled};
 use program_input::{InputFault, read_input};
 use screen_scripts::print_screen;
+use std::alloc::Global;
 use std::io::Write;
-use terminal::{Event, Program};
+use terminal::{Event, Keyboard, Program};
 
 // A line of a script.
 #[derive(Clone, Copy)]
@@ -31,9 +32,11 @@ struct Script<'a> {
     number: u32,
 }
 
-// What a screen sends, and the terminal that is fed with it.
+// The terminal: what it is fed with, what is typed on it, and what it shows.
 #[derive(Drop)]
-struct Shown {
+struct Emulated {
+    screen: Screen,
+    keyboard: Keyboard,
     out: Device<Vec<u8>>,
     terminal: EcmaScreen,
 }
@@ -82,46 +85,52 @@ fn size_of(words: &str) -> Option<Size> {
     Size::new(rows.parse::<u32>().ok()?, columns.parse::<u32>().ok()?)
 }
 
-/// Runs the editor of a file by a script from standard input, and prints what the terminal shows. What keys ask for is
-/// done as on a terminal, but the editor is not suspended and goes on where it would be left.
+/// Runs the editor of a file by a script from standard input, on an emulated terminal with this charset, and prints
+/// what it shows. What keys ask for is done as on a terminal, but the editor is not suspended and goes on where it would
+/// be left.
 ///
 /// Refused with the number of the first line that is not a command, if the script cannot be read or is not UTF-8 text,
 /// if nothing can be printed, or if memory runs out.
 pub fn edit_by_script(
     rt: &HostRuntime,
     path: &str,
+    charset: Charset,
     editor: &mut Editor,
 ) -> Result<(), EditFailure> {
     match read_input(rt.alloc(), &mut rt.reader()) {
-        Ok(bytes) => run_bytes(&bytes, &mut Session::new(rt, path, editor)),
+        Ok(bytes) => run_bytes(&bytes, charset, &mut Session::new(rt, path, editor)),
         Err(InputFault::Failed) => Err(EditFailure::Input),
         Err(InputFault::NoMemory) => Err(EditFailure::NoMemory),
     }
 }
 
-fn run_bytes(script: &[u8], session: &mut Session<'_>) -> Result<(), EditFailure> {
+fn run_bytes(
+    script: &[u8],
+    charset: Charset,
+    session: &mut Session<'_>,
+) -> Result<(), EditFailure> {
     match str::from_utf8(script) {
-        Ok(script) => run_script(script, session),
+        Ok(script) => run_script(script, charset, session),
         Err(_) => Err(EditFailure::NotText),
     }
 }
 
-fn run_script(script: &str, session: &mut Session<'_>) -> Result<(), EditFailure> {
+fn run_script(
+    script: &str,
+    charset: Charset,
+    session: &mut Session<'_>,
+) -> Result<(), EditFailure> {
     let mut script = Script {
         rest: script,
         number: 0,
     };
-    run_lines(&mut script, session)
-}
-
-fn run_lines(script: &mut Script<'_>, session: &mut Session<'_>) -> Result<(), EditFailure> {
     let Some(Line::Size(first)) = script.next_line()? else {
         return Err(EditFailure::BadLine(1));
     };
     let mut size = Some(first);
     for _ in 0..u32::MAX {
         size = match size {
-            Some(size) => play_at(size, script, session)?,
+            Some(size) => play_at(size, charset, &mut script, session)?,
             None => return Ok(()),
         };
     }
@@ -131,42 +140,30 @@ fn run_lines(script: &mut Script<'_>, session: &mut Session<'_>) -> Result<(), E
 // Plays lines on a terminal of this size that the bundled entry is for, and gives the size that it is resized to.
 fn play_at(
     size: Size,
+    charset: Charset,
     script: &mut Script<'_>,
     session: &mut Session<'_>,
 ) -> Result<Option<Size>, EditFailure> {
-    let entry = bundled(session.rt.alloc())?;
-    play_with(&entry, size, script, session)
+    let mut emulated = new_terminal(session.rt.alloc(), size, charset)?;
+    session.begin_screen(&mut emulated.screen);
+    play(&mut emulated, script, session)
 }
 
-// Opens a screen of this entry, and plays on it.
-fn play_with(
-    entry: &Entry,
-    size: Size,
-    script: &mut Script<'_>,
-    session: &mut Session<'_>,
-) -> Result<Option<Size>, EditFailure> {
-    let opened = Screen::open_sized(session.rt.alloc(), entry, size);
-    play_on(&mut opened?, script, session)
-}
-
-fn play_on(
-    screen: &mut Screen,
-    script: &mut Script<'_>,
-    session: &mut Session<'_>,
-) -> Result<Option<Size>, EditFailure> {
-    session.begin_screen(screen);
-    match EcmaScreen::new(session.rt.alloc(), screen.screen()) {
-        Ok(terminal) => {
-            let out = Device::new(Vec::new(session.rt.alloc()));
-            play(screen, &mut Shown { out, terminal }, script, session)
-        }
-        Err(_) => Err(EditFailure::NoMemory),
-    }
+// A terminal of this size with nothing on it.
+fn new_terminal(alloc: Global, size: Size, charset: Charset) -> Result<Emulated, EditFailure> {
+    let entry = bundled(alloc)?;
+    let screen = Screen::open_as(alloc, &entry, Some(size), Opening { charset })?;
+    let terminal = EcmaScreen::new_as(alloc, size, charset)?;
+    Ok(Emulated {
+        screen,
+        keyboard: Keyboard::new(),
+        out: Device::new(Vec::new(alloc)),
+        terminal,
+    })
 }
 
 fn play(
-    screen: &mut Screen,
-    shown: &mut Shown,
+    emulated: &mut Emulated,
     script: &mut Script<'_>,
     session: &mut Session<'_>,
 ) -> Result<Option<Size>, EditFailure> {
@@ -176,58 +173,61 @@ fn play(
         };
         match line {
             Line::Size(size) => return Ok(Some(size)),
-            Line::Type(text) => type_bytes(screen, session, text.as_bytes()),
+            Line::Type(text) => type_bytes(emulated, session, text.as_bytes()),
             Line::Bytes(words) => {
-                if !press_bytes(screen, session, words) {
+                if !press_bytes(emulated, session, words) {
                     return Err(script.fault());
                 }
             }
-            Line::Idle => {
-                let _ = screen.key_idle();
-                answer_keys(screen, session);
-                session.editor.pause();
-            }
-            Line::Show => show(screen, shown, session)?,
+            Line::Idle => pass_time(emulated, session),
+            Line::Show => show(emulated, session)?,
         }
     }
     Ok(None)
 }
 
-fn type_bytes(screen: &mut Screen, session: &mut Session<'_>, bytes: &[u8]) {
+fn type_bytes(emulated: &mut Emulated, session: &mut Session<'_>, bytes: &[u8]) {
     for &byte in bytes {
-        type_byte(screen, session, byte);
+        type_byte(emulated, session, byte);
     }
 }
 
-// Types a byte: as a part of a key, or as it is where that was asked for.
-fn type_byte(screen: &mut Screen, session: &mut Session<'_>, byte: u8) {
+// Types a byte: as a part of a key or of a character, or as it is where that was asked for.
+fn type_byte(emulated: &mut Emulated, session: &mut Session<'_>, byte: u8) {
     if session.editor.mode == Mode::Literal {
         answer(session, Event::Key(Key::Byte(byte)));
-    } else {
-        let _ = screen.key_byte(byte);
-        answer_keys(screen, session);
+        return;
+    }
+    let _ = emulated.screen.key_byte(byte);
+    for _ in 0..u32::MAX {
+        let Some(typed) = emulated.keyboard.next(&mut emulated.screen) else {
+            return;
+        };
+        answer(session, Event::of(typed));
     }
 }
 
 // Types bytes in hexadecimal; answers whether all are.
-fn press_bytes(screen: &mut Screen, session: &mut Session<'_>, words: &str) -> bool {
+fn press_bytes(emulated: &mut Emulated, session: &mut Session<'_>, words: &str) -> bool {
     for word in words.split(' ') {
         match u8::from_str_radix(word, 16) {
-            Ok(byte) => type_byte(screen, session, byte),
+            Ok(byte) => type_byte(emulated, session, byte),
             Err(_) => return false,
         }
     }
     true
 }
 
-// Presses the keys that wait.
-fn answer_keys(screen: &mut Screen, session: &mut Session<'_>) {
+// No byte comes for a while: what waits for more of them is typed as it is.
+fn pass_time(emulated: &mut Emulated, session: &mut Session<'_>) {
+    let _ = emulated.screen.key_idle();
     for _ in 0..u32::MAX {
-        let Some(key) = screen.key() else {
-            return;
+        let Some(typed) = emulated.keyboard.next_at_once(&mut emulated.screen) else {
+            break;
         };
-        answer(session, Event::Key(key));
+        answer(session, Event::of(typed));
     }
+    session.editor.pause();
 }
 
 // Does what an event asks for. A script goes on where the editor would be left.
@@ -238,20 +238,19 @@ fn answer(session: &mut Session<'_>, event: Event) {
 }
 
 // Brings the terminal to what the editor shows, and prints it.
-fn show(
-    screen: &mut Screen,
-    shown: &mut Shown,
-    session: &mut Session<'_>,
-) -> Result<(), EditFailure> {
-    shown.out.writer.clear();
-    session.draw(screen)?;
-    if screen.doupdate(session.rt.alloc(), &mut shown.out).is_err() {
+fn show(emulated: &mut Emulated, session: &mut Session<'_>) -> Result<(), EditFailure> {
+    emulated.out.writer.clear();
+    session.draw(&mut emulated.screen)?;
+    let updated = emulated
+        .screen
+        .doupdate(session.rt.alloc(), &mut emulated.out);
+    if updated.is_err() {
         return Err(EditFailure::NoMemory);
     }
-    if shown.terminal.feed(&shown.out.writer).is_err() {
+    if emulated.terminal.feed(&emulated.out.writer).is_err() {
         return Err(EditFailure::Output);
     }
-    print_terminal(session.rt, &shown.terminal)
+    print_terminal(session.rt, &emulated.terminal)
 }
 
 fn print_terminal(rt: &HostRuntime, terminal: &EcmaScreen) -> Result<(), EditFailure> {

@@ -1,4 +1,4 @@
-//! Finding bytes in the text.
+//! Finding characters in the text, by their bytes.
 
 use crate::editor::{Editor, Mode};
 use crate::history::is_up_to;
@@ -34,9 +34,13 @@ impl Editor {
             return;
         }
         let start = self.cursor;
+        let length = match self.text.part_at(start) {
+            Some(part) => part.len(),
+            None => 1,
+        };
         let after = Place {
             line: start.line,
-            column: start.column.saturating_add(1),
+            column: start.column.saturating_add(length),
         };
         match self.text.find(after, &self.needle) {
             Some(place) => {

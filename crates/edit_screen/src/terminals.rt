@@ -3,11 +3,24 @@
 use crate::editor::Editor;
 use crate::failures::EditFailure;
 use crate::living::Session;
-use curses::bundled;
+use curses::{Charset, Opening, bundled};
 use terminal::{TerminalFault, TerminalScreen};
 
-/// Runs the editor of a file on the terminal that standard input and output are, to its end: with the bundled entry, or
-/// with the one that `TERM` names in the machine's database.
+// How a screen is opened on a terminal that speaks UTF-8.
+const UTF8: Opening = Opening {
+    charset: Charset::Utf8,
+};
+
+/// The terminal that an editor is run on.
+#[derive(Clone, Copy)]
+pub struct Terminal {
+    /// Whether it is served by the bundled entry, and not by the one that `TERM` names in the machine's database.
+    pub is_bundled: bool,
+    /// Whether it speaks UTF-8 whatever the locale says. Else it does where the locale says so.
+    pub is_utf8: bool,
+}
+
+/// Runs the editor of a file on the terminal that standard input and output are, to its end.
 ///
 /// Refused if there is no such entry or it cannot be served, if the standard input is a terminal that is not in raw mode,
 /// if the input ends, if the terminal cannot be read or accepts no output, or if memory runs out. The screen is closed
@@ -15,18 +28,22 @@ use terminal::{TerminalFault, TerminalScreen};
 pub fn edit_on_terminal(
     rt: &HostRuntime,
     path: &str,
-    is_bundled: bool,
+    terminal: Terminal,
     editor: &mut Editor,
 ) -> Result<(), EditFailure> {
-    let opened = open(rt, is_bundled);
+    let opened = open(rt, terminal);
     run(rt, &mut opened?, &mut Session::new(rt, path, editor))
 }
 
-fn open(rt: &HostRuntime, is_bundled: bool) -> Result<TerminalScreen, EditFailure> {
-    let opened: Result<TerminalScreen, TerminalFault> = if is_bundled {
-        TerminalScreen::open_entry(rt, bundled(rt.alloc())?)
-    } else {
-        TerminalScreen::open(rt)
+fn open(rt: &HostRuntime, terminal: Terminal) -> Result<TerminalScreen, EditFailure> {
+    let opened: Result<TerminalScreen, TerminalFault> = match (
+        terminal.is_bundled,
+        terminal.is_utf8,
+    ) {
+        (false, false) => TerminalScreen::open(rt),
+        (false, true) => TerminalScreen::open_as(rt, UTF8),
+        (true, false) => TerminalScreen::open_entry(rt, bundled(rt.alloc())?),
+        (true, true) => TerminalScreen::open_entry_as(rt, bundled(rt.alloc())?, UTF8),
     };
     match opened {
         Ok(terminal) => Ok(terminal),

@@ -1,4 +1,6 @@
-//! What is seen of a line: how each byte is shown, and the columns that it needs.
+//! What is seen of a line: how each part of it is shown, and the columns that it needs.
+
+use edit_text::{Part, first_part};
 
 /// A tab reaches to the next column that is a multiple of this.
 const TAB: usize = 8;
@@ -6,18 +8,19 @@ const TAB: usize = 8;
 /// What a tab is shown as, as much of it as it needs.
 pub(crate) const BLANKS: [u8; TAB] = [b' '; TAB];
 
-/// Whether a byte is shown as itself: it is a printable character.
+/// Whether a byte is shown as itself: it is a printable character of ASCII.
 pub(crate) fn is_printable(byte: u8) -> bool {
     matches!(byte, 32..=126)
 }
 
-/// How many columns a byte needs that is shown from a column on, which is counted from its line's first.
-pub(crate) fn width_at(column: usize, byte: u8) -> usize {
-    match byte {
-        b'\t' => TAB - column % TAB,
-        32..=126 => 1,
-        128..=255 => 4,
-        _ => 2,
+/// How many columns a part of a line needs that is shown from a column on, which is counted from the line's first. A
+/// character of one column is shown as itself.
+pub(crate) fn width_at(column: usize, part: Part) -> usize {
+    match part {
+        Part::Character(_) | Part::Byte(32..=126) => 1,
+        Part::Byte(b'\t') => TAB - column % TAB,
+        Part::Byte(128..=255) => 4,
+        Part::Byte(_) => 2,
     }
 }
 
@@ -43,27 +46,59 @@ pub(crate) fn printable_length(text: &[u8]) -> usize {
     }
 }
 
-/// The column, from the line's first, in which the byte after the first `count` bytes is shown.
+/// The part that bytes begin with, and the bytes after it.
+pub(crate) fn cut_part(bytes: &[u8]) -> Option<(Part, &[u8])> {
+    let part = first_part(bytes)?;
+    Some((part, bytes.get(part.len()..).unwrap_or(&[])))
+}
+
+/// The column, from the line's first, in which the part after the first `count` bytes is shown.
 pub(crate) fn column_of(line: &[u8], count: usize) -> usize {
+    let mut rest = line.get(..count).unwrap_or(line);
     let mut column = 0usize;
-    for &byte in line.get(..count).unwrap_or(line) {
-        column = column.saturating_add(width_at(column, byte));
+    for _ in 0..rest.len() {
+        let printable = printable_length(rest);
+        column = column.saturating_add(printable);
+        let Some((part, after)) = cut_part(rest.get(printable..).unwrap_or(&[])) else {
+            break;
+        };
+        column = column.saturating_add(width_at(column, part));
+        rest = after;
     }
     column
 }
 
-/// How many bytes of a line are shown before a column, wholly.
-pub(crate) fn bytes_before(line: &[u8], column: usize) -> usize {
-    let mut end = 0usize;
-    let mut count = 0usize;
-    for &byte in line {
-        end = end.saturating_add(width_at(end, byte));
-        if end > column {
-            return count;
-        }
-        count = count.saturating_add(1);
+/// How many parts the first `count` bytes of a line are.
+pub(crate) fn parts_before(line: &[u8], count: usize) -> usize {
+    let mut rest = line.get(..count).unwrap_or(line);
+    let mut parts = 0usize;
+    for _ in 0..rest.len() {
+        let printable = printable_length(rest);
+        parts = parts.saturating_add(printable);
+        let Some((_, after)) = cut_part(rest.get(printable..).unwrap_or(&[])) else {
+            break;
+        };
+        parts = parts.saturating_add(1);
+        rest = after;
     }
-    count
+    parts
+}
+
+/// How many bytes of a line are those of the parts that are shown before a column, wholly.
+pub(crate) fn bytes_before(line: &[u8], column: usize) -> usize {
+    let mut rest = line;
+    let mut end = 0usize;
+    for _ in 0..line.len() {
+        let Some((part, after)) = cut_part(rest) else {
+            break;
+        };
+        end = end.saturating_add(width_at(end, part));
+        if end > column {
+            break;
+        }
+        rest = after;
+    }
+    line.len().saturating_sub(rest.len())
 }
 
 /// The first column of a line that its row shows so that the cursor's column is within the row: 0, or a multiple of
@@ -76,27 +111,32 @@ pub(crate) fn first_shown(cursor: usize, columns: usize) -> usize {
     (cursor / half - 1) * half
 }
 
-/// Whether a byte stands between words: a blank, a tab, or a line feed.
-pub(crate) fn is_blank(byte: u8) -> bool {
-    matches!(byte, b' ' | b'\t' | b'\n')
+/// Whether a part stands between words: a blank, a tab, or a line feed.
+pub(crate) fn is_blank(part: Part) -> bool {
+    matches!(part, Part::Byte(b' ' | b'\t' | b'\n'))
 }
 
 /// The last blank of a line, at a column up to `most` and after something else, that is before the byte `end`: where a
 /// line that is too long is broken.
 pub(crate) fn last_break(line: &[u8], end: usize, most: usize) -> Option<usize> {
     let mut found = None;
+    let mut rest = line.get(..end).unwrap_or(line);
+    let mut place = 0usize;
     let mut column = 0usize;
     let mut is_text = false;
-    for (place, &byte) in line.iter().enumerate() {
-        if place >= end || column > most {
-            return found;
-        }
-        if !is_blank(byte) {
+    for _ in 0..line.len() {
+        let (part, after) = match cut_part(rest) {
+            Some(cut) if column <= most => cut,
+            _ => return found,
+        };
+        if !is_blank(part) {
             is_text = true;
         } else if is_text {
             found = Some(place);
         }
-        column = column.saturating_add(width_at(column, byte));
+        column = column.saturating_add(width_at(column, part));
+        place = place.saturating_add(part.len());
+        rest = after;
     }
     found
 }

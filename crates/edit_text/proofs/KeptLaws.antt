@@ -1,9 +1,11 @@
 -- Edits keep lines: there is one, and none has a line feed.
 use Rattle.std.proofs.Common.{◌≡◌, ℕ, zero, suc, ◌<◌, Bool, true, false, ◌||◌, ◌==◌, List, [], ◌∷◌, ◌++◌, length, take, drop, set, sym, ◌∙◌, ap, refl, arith, subst, cond}
 use Rattle.std.specs.Prelude.{nat_lt}
-use Rattle.std.specs.List.{insert, remove, list_any, slice_split, onto_first}
+use Rattle.std.specs.List.{list_any, slice_split, onto_first}
+use Rattle.edit_text.specs.declared.parts.Part.{Part}
 use Rattle.edit_text.specs.declared.places.Place.{Place}
-use Rattle.edit_text.specs.Lines.{AreLines, has_line_feed, line_at, inserted, removed, split_at, joined, deleted}
+use Rattle.edit_text.specs.Lines.{AreLines, deleted, has_line_feed, inserted, joined, line_at, removed, split_at, with_bytes, without_bytes}
+use Rattle.edit_text.specs.Parts.{spelled}
 use Rattle.edit_text.proofs.InverseLaws.{length-inserted, length-removed}
 
 -- ---- neither
@@ -35,11 +37,11 @@ none_both : {X : Type 0} (p : X → Bool) (xs ys : List X) → list_any p xs ≡
 none_both p [] ys h k = k
 none_both p (x ∷ xs) ys h k = neither _ _ (not_first _ _ h) (none_both p xs ys (not_second (p x) _ h) k)
 
-none_insert : {X : Type 0} (p : X → Bool) (n : ℕ) (xs : List X) (x : X) → list_any p xs ≡ false → p x ≡ false → list_any p (insert xs n x) ≡ false
-none_insert p n xs x h k = none_both p (take n xs) _ (none_take p n xs h) (neither _ _ k (none_drop p n xs h))
+none_with : (p : ℕ → Bool) (n : ℕ) (xs bs : List ℕ) → list_any p xs ≡ false → list_any p bs ≡ false → list_any p (with_bytes xs n bs) ≡ false
+none_with p n xs bs h k = none_both p (take n xs) _ (none_take p n xs h) (none_both p bs _ k (none_drop p n xs h))
 
-none_remove : {X : Type 0} (p : X → Bool) (n : ℕ) (xs : List X) → list_any p xs ≡ false → list_any p (remove xs n) ≡ false
-none_remove p n xs h = none_both p (take n xs) _ (none_take p n xs h) (none_drop p (suc n) xs h)
+none_without : (p : ℕ → Bool) (n m : ℕ) (xs : List ℕ) → list_any p xs ≡ false → list_any p (without_bytes xs n m) ≡ false
+none_without p n m xs h = none_both p (take n xs) _ (none_take p n xs h) (none_drop p m _ (none_drop p n xs h))
 
 none_set : {X : Type 0} (p : X → Bool) (n : ℕ) (xs : List X) (x : X) → list_any p xs ≡ false → p x ≡ false → list_any p (set xs n x) ≡ false
 none_set p n [] x h k = refl
@@ -53,18 +55,18 @@ none_at (x ∷ ls) (suc n) h = none_at ls n (not_second (has_line_feed x) _ h)
 
 -- ---- edits
 
-pub lines_inserted : (ls : List (List ℕ)) (p : Place) (b : ℕ) → AreLines ls → (b == 10) ≡ false → AreLines (inserted ls p b)
-lines_inserted ls p b h k =
+pub lines_inserted : (ls : List (List ℕ)) (p : Place) (bs : List ℕ) → AreLines ls → has_line_feed bs ≡ false → AreLines (inserted ls p bs)
+lines_inserted ls p bs h k =
     record {
-      some = subst (λ n. 0 < n) (sym (length-inserted ls p.line p.column b)) h.some;
-      whole = none_set has_line_feed p.line ls _ h.whole (none_insert (λ byte. byte == 10) p.column (line_at ls p.line) b (none_at ls p.line h.whole) k);
+      some = subst (λ n. 0 < n) (sym (length-inserted ls p.line p.column bs)) h.some;
+      whole = none_set has_line_feed p.line ls _ h.whole (none_with (λ byte. byte == 10) p.column (line_at ls p.line) bs (none_at ls p.line h.whole) k);
     }
 
-pub lines_removed : (ls : List (List ℕ)) (p : Place) → AreLines ls → AreLines (removed ls p)
-lines_removed ls p h =
+pub lines_removed : (ls : List (List ℕ)) (p : Place) (n : ℕ) → AreLines ls → AreLines (removed ls p n)
+lines_removed ls p n h =
     record {
-      some = subst (λ n. 0 < n) (sym (length-removed ls p.line p.column)) h.some;
-      whole = none_set has_line_feed p.line ls _ h.whole (none_remove (λ byte. byte == 10) p.column (line_at ls p.line) (none_at ls p.line h.whole));
+      some = subst (λ n. 0 < n) (sym (length-removed ls p.line p.column n)) h.some;
+      whole = none_set has_line_feed p.line ls _ h.whole (none_without (λ byte. byte == 10) p.column n (line_at ls p.line) (none_at ls p.line h.whole));
     }
 
 some_there : (xs ys : List (List ℕ)) (x : List ℕ) → 0 < length (xs ++ (x ∷ ys))
@@ -90,11 +92,11 @@ lines_joined ls n h =
           (neither _ _ (none_both (λ byte. byte == 10) (line_at ls n) (line_at ls (suc n)) (none_at ls n h.whole) (none_at ls (suc n) h.whole)) (none_drop has_line_feed (suc (suc n)) ls h.whole));
     }
 
-pub lines_deleted : (ls : List (List ℕ)) (p : Place) → AreLines ls → AreLines (deleted ls p)
-lines_deleted ls p h = either (nat_lt p.column (length (line_at ls p.line)))
+pub lines_deleted : (ls : List (List ℕ)) (p : Place) (part : Part) → AreLines ls → AreLines (deleted ls p part)
+lines_deleted ls p part h = either (nat_lt p.column (length (line_at ls p.line)))
   where
-    either : (t : Bool) → AreLines (cond t (removed ls p) (joined ls p.line))
-    either true = lines_removed ls p h
+    either : (t : Bool) → AreLines (cond t (removed ls p (length (spelled part))) (joined ls p.line))
+    either true = lines_removed ls p (length (spelled part)) h
     either false = lines_joined ls p.line h
 
 -- ---- reading

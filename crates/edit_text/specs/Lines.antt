@@ -1,7 +1,10 @@
 -- Lists of lines, and what an edit makes of one.
-use Rattle.std.specs.Prelude.{◌≡◌, ℕ, suc, ◌+◌, ◌<◌, Bool, false, ◌&&◌, nat_lt, nat_le, ◌==◌, List, [], ◌∷◌, ◌++◌, length, take, drop, slice_index_or, slice_set, if◌then◌else◌}
-use Rattle.std.specs.List.{insert, remove, list_any, join_with_byte, sum_by}
+use Rattle.std.specs.Prelude.{◌≡◌, ℕ, suc, ◌+◌, ◌<◌, Bool, false, ◌&&◌, nat_lt, nat_le, ◌==◌, List, [], ◌∷◌, ◌++◌, length, take, drop, slice_index_or, slice_set, if◌then◌else◌, MatchBool, Option, None, Some}
+use Rattle.std.specs.List.{list_any, join_with_byte, sum_by}
+use Rattle.edit_text.specs.declared.parts.Part.{Part}
+use Rattle.edit_text.specs.declared.parts.Part.TheVariants.{Byte}
 use Rattle.edit_text.specs.declared.places.Place.{Place}
+use Rattle.edit_text.specs.Parts.{IsFirstPart, IsLastPart, spelled}
 
 -- the bytes of a file with these lines: the lines, joined by line feeds
 abbrev pub bytes_of : List (List ℕ) → List ℕ
@@ -28,13 +31,21 @@ is_inside lines place = nat_lt place.line (length lines) && nat_le place.column 
 abbrev pub is_end : List (List ℕ) → Place → Bool
 is_end lines place = place.line + 1 == length lines && place.column == length (line_at lines place.line)
 
--- a byte inserted at a place of its line
-abbrev pub inserted : List (List ℕ) → Place → ℕ → List (List ℕ)
-inserted lines place byte = slice_set lines place.line (insert (line_at lines place.line) place.column byte)
+-- a line with some bytes more from a column on
+abbrev pub with_bytes : List ℕ → ℕ → List ℕ → List ℕ
+with_bytes line column bytes = take column line ++ (bytes ++ drop column line)
 
--- the byte at a place removed from its line
-abbrev pub removed : List (List ℕ) → Place → List (List ℕ)
-removed lines place = slice_set lines place.line (remove (line_at lines place.line) place.column)
+-- a line without so many bytes from a column on
+abbrev pub without_bytes : List ℕ → ℕ → ℕ → List ℕ
+without_bytes line column count = take column line ++ drop count (drop column line)
+
+-- some bytes inserted at a place of its line
+abbrev pub inserted : List (List ℕ) → Place → List ℕ → List (List ℕ)
+inserted lines place bytes = slice_set lines place.line (with_bytes (line_at lines place.line) place.column bytes)
+
+-- so many bytes at a place removed from its line
+abbrev pub removed : List (List ℕ) → Place → ℕ → List (List ℕ)
+removed lines place count = slice_set lines place.line (without_bytes (line_at lines place.line) place.column count)
 
 -- a line in two: up to a place, and from there on
 abbrev pub split_at : List (List ℕ) → Place → List (List ℕ)
@@ -46,10 +57,28 @@ split_at lines place =
 abbrev pub joined : List (List ℕ) → ℕ → List (List ℕ)
 joined lines n = take n lines ++ ((line_at lines n ++ line_at lines (suc n)) ∷ drop (suc (suc n)) lines)
 
--- what is deleted at a place: the byte there, or at the end of a line the end of that line
-abbrev pub deleted : List (List ℕ) → Place → List (List ℕ)
-deleted lines place =
-    if nat_lt place.column (length (line_at lines place.line)) then removed lines place else joined lines place.line
+-- the part at a place: what the rest of the line begins with, or at the end of a line the line feed after it; none at
+-- the very end of the text
+abbrev pub IsPartAt : List (List ℕ) → Place → Option Part → Type 0
+IsPartAt lines place part =
+    MatchBool (nat_lt place.column (length (line_at lines place.line)))
+    (IsFirstPart (drop place.column (line_at lines place.line)) part)
+    (part ≡ (if is_end lines place then None else Some (Byte 10)))
+
+-- the part before a place: what the line ends with up to there, or at the beginning of a line the line feed before it;
+-- none at the very beginning of the text
+abbrev pub IsPartBefore : List (List ℕ) → Place → Option Part → Type 0
+IsPartBefore lines place part =
+    MatchBool (place.column == 0)
+    (part ≡ (if place.line == 0 then None else Some (Byte 10)))
+    (IsLastPart (take place.column (line_at lines place.line)) part)
+
+-- the lines without the part at a place; at the end of a line it is the end of that line
+abbrev pub deleted : List (List ℕ) → Place → Part → List (List ℕ)
+deleted lines place part =
+    if nat_lt place.column (length (line_at lines place.line))
+    then removed lines place (length (spelled part))
+    else joined lines place.line
 
 -- how many bytes of the file are before a place: the lines before it with their line feeds, and its column
 abbrev pub offset : List (List ℕ) → Place → ℕ

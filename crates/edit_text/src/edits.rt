@@ -2,15 +2,16 @@
 ghost use Rattle.std.specs.Prelude.{◌≡◌};
 ghost use Rattle.edit_text.specs.Code.Edits.{place_of};
 
+use crate::parts::Part;
 use crate::places::Place;
 
 // An edit that was made at a place.
 #[derive(Clone, Copy)]
 pub(crate) enum Edit {
-    // A byte was inserted.
-    Inserted(Place),
-    // This byte was deleted.
-    Deleted(Place, u8),
+    // This part was inserted.
+    Inserted(Place, Part),
+    // This part was deleted.
+    Deleted(Place, Part),
     // The line was split.
     Split(Place),
     // The next line was joined to the line that ended there.
@@ -23,7 +24,7 @@ impl Edit {
         ensures { result ≡ place_of self }
     {
         match self {
-            Edit::Inserted(place)
+            Edit::Inserted(place, _)
             | Edit::Deleted(place, _)
             | Edit::Split(place)
             | Edit::Joined(place) => place,

@@ -1,10 +1,12 @@
 //! Lines of bytes, and what edits do to them. The definitions are in `specs/Lines.antt`.
-ghost use Rattle.std.specs.Prelude.{◌≡◌, ◌==◌, suc, false, ◌<◌, ◌≤◌, [], ◌∷◌, ◌++◌, length, drop, take, IfOk, OnOk, OnErr, option_map, slice_get, slice_set};
+ghost use Rattle.std.specs.Prelude.{◌≡◌, ◌==◌, ◌+◌, suc, ◌<◌, ◌≤◌, [], ◌∷◌, ◌++◌, length, drop, take, IfOk, OnOk, OnErr, Some, option_map, slice_get, slice_set};
 ghost use Rattle.std.specs.List.{flat_map, slice_split};
-ghost use Rattle.edit_text.specs.Lines.{bytes_of, deleted, inserted, is_end, is_inside, joined, line_at, removed, split_at};
+ghost use Rattle.edit_text.specs.Lines.{IsPartAt, IsPartBefore, bytes_of, deleted, inserted, is_inside, joined, line_at, removed, split_at, with_bytes, without_bytes};
 ghost use Rattle.edit_text.specs.Code.Edits.{CanUndo, Undoes, undone};
+ghost use Rattle.edit_text.specs.Parts.{spelled};
 
 use crate::edits::Edit;
+use crate::parts::{Part, first_part, last_part};
 use crate::places::Place;
 use out_of_memory::NoMemory;
 use std::alloc::Global;
@@ -35,6 +37,45 @@ impl Line {
     {
         let rest = self.0.split_off(column)?;
         Ok(Line(rest))
+    }
+
+    // Inserts a part at a column. Fails only when memory runs out.
+    fn insert(&mut self, column: usize, part: Part) -> Result<(), NoMemory>
+        requires { column ≤ length self.old }
+        ensures ok { OnOk result (self.new ≡ with_bytes self.old column (spelled part)) }
+        ensures err { OnErr result (self.new ≡ self.old) }
+    {
+        match part {
+            Part::Byte(byte) => {
+                self.0.insert(column, byte)?;
+                Ok(())
+            }
+            Part::Character(character) => {
+                let mut buffer = [0; 4];
+                self.insert_bytes(column, character.encode_utf8(&mut buffer).as_bytes())
+            }
+        }
+    }
+
+    // Inserts bytes at a column. Fails only when memory runs out.
+    fn insert_bytes(&mut self, column: usize, bytes: &[u8]) -> Result<(), NoMemory>
+        requires { column ≤ length self.old }
+        ensures ok { OnOk result (self.new ≡ with_bytes self.old column bytes.now) }
+        ensures err { OnErr result (self.new ≡ self.old) }
+    {
+        self.0.extend_from_slice(bytes)?;
+        self.0[column..].rotate_right(bytes.len());
+        Ok(())
+    }
+
+    // Removes so many bytes at a column.
+    fn remove(&mut self, column: usize, count: usize)
+        requires { column + count ≤ length self.old }
+        ensures { self.new ≡ without_bytes self.old column count }
+    {
+        let left = self.0.len() - count;
+        self.0[column..].rotate_left(count);
+        self.0.truncate(left);
     }
 
     // Appends another line's bytes. Fails only when memory runs out.
@@ -127,11 +168,38 @@ impl Lines {
         Ok(bytes)
     }
 
-    // The byte at a place; `None` at the end of a line and past it.
-    fn byte_at(&self, place: Place) -> Option<u8>
-        ensures { result ≡ slice_get (line_at self.now place.line) place.column }
+    // The part at a place in these lines.
+    pub(crate) fn part_at(&self, place: Place) -> Option<Part>
+        requires line { place.line < length self.now }
+        requires column { place.column ≤ length (line_at self.now place.line) }
+        ensures { IsPartAt self.now place result }
     {
-        self.bytes_of(place.line).get(place.column).copied()
+        let count = self.count();
+        let line = self.bytes_of(place.line);
+        if place.column < line.len() {
+            return first_part(&line[place.column..]);
+        }
+        if place.line + 1 < count {
+            Some(Part::Byte(LINE_FEED))
+        } else {
+            None
+        }
+    }
+
+    // The part before a place in these lines.
+    pub(crate) fn part_before(&self, place: Place) -> Option<Part>
+        requires line { place.line < length self.now }
+        requires column { place.column ≤ length (line_at self.now place.line) }
+        ensures { IsPartBefore self.now place result }
+    {
+        if place.column > 0 {
+            return last_part(&self.bytes_of(place.line)[..place.column]);
+        }
+        if place.line > 0 {
+            Some(Part::Byte(LINE_FEED))
+        } else {
+            None
+        }
     }
 
     // The bytes of a line; none past the last one.
@@ -144,26 +212,21 @@ impl Lines {
         }
     }
 
-    // Deletes at a place that is not the end of the lines, and gives the edit that this was. Fails only when memory
-    // runs out.
-    pub(crate) fn delete(&mut self, place: Place) -> Result<Edit, NoMemory>
+    // Deletes the part at a place, and gives the edit that this was. Fails only when memory runs out.
+    pub(crate) fn delete(&mut self, place: Place, part: Part) -> Result<Edit, NoMemory>
         requires line { place.line < length self.old }
         requires column { place.column ≤ length (line_at self.old place.line) }
-        requires not_end { is_end self.old place ≡ false }
-        ensures ok { OnOk result (self.new ≡ deleted self.old place) }
+        requires part { IsPartAt self.old place (Some part) }
+        ensures ok { OnOk result (self.new ≡ deleted self.old place part) }
         ensures edit { IfOk result (λ edit. Undoes edit place self.old self.new) }
         ensures err { OnErr result (self.new ≡ self.old) }
     {
-        match self.byte_at(place) {
-            Some(byte) => {
-                self.remove(place);
-                Ok(Edit::Deleted(place, byte))
-            }
-            None => {
-                self.join(place.line)?;
-                Ok(Edit::Joined(place))
-            }
+        if place.column < self.length_of(place.line) {
+            self.remove(place, part.len());
+            return Ok(Edit::Deleted(place, part));
         }
+        self.join(place.line)?;
+        Ok(Edit::Joined(place))
     }
 
     // Undoes the last edit that was made. Fails only when memory runs out.
@@ -173,36 +236,33 @@ impl Lines {
         ensures err { OnErr result (self.new ≡ self.old) }
     {
         match edit {
-            Edit::Inserted(place) => {
-                self.remove(place);
+            Edit::Inserted(place, part) => {
+                self.remove(place, part.len());
                 Ok(())
             }
-            Edit::Deleted(place, byte) => self.insert(place, byte),
+            Edit::Deleted(place, part) => self.insert(place, part),
             Edit::Split(place) => self.join(place.line),
             Edit::Joined(place) => self.split(place),
         }
     }
 
-    // Inserts a byte at a place. Fails only when memory runs out.
-    pub(crate) fn insert(&mut self, place: Place, byte: u8) -> Result<(), NoMemory>
+    // Inserts a part at a place. Fails only when memory runs out.
+    pub(crate) fn insert(&mut self, place: Place, part: Part) -> Result<(), NoMemory>
         requires line { place.line < length self.old }
         requires column { place.column ≤ length (line_at self.old place.line) }
-        ensures ok { OnOk result (self.new ≡ inserted self.old place byte) }
+        ensures ok { OnOk result (self.new ≡ inserted self.old place (spelled part)) }
         ensures err { OnErr result (self.new ≡ self.old) }
     {
-        let line = &mut self.0[place.line];
-        line.0.insert(place.column, byte)?;
-        Ok(())
+        self.0[place.line].insert(place.column, part)
     }
 
-    // Removes the byte at a place.
-    pub(crate) fn remove(&mut self, place: Place)
+    // Removes so many bytes at a place.
+    pub(crate) fn remove(&mut self, place: Place, count: usize)
         requires line { place.line < length self.old }
-        requires column { place.column < length (line_at self.old place.line) }
-        ensures { self.new ≡ removed self.old place }
+        requires column { place.column + count ≤ length (line_at self.old place.line) }
+        ensures { self.new ≡ removed self.old place count }
     {
-        let line = &mut self.0[place.line];
-        let _ = line.0.remove(place.column);
+        self.0[place.line].remove(place.column, count);
     }
 
     // Splits a line at a place. Fails only when memory runs out.

@@ -1,7 +1,8 @@
 //! Texts that are edited, with undo. The definitions are in `specs/Texts.antt`, `specs/Lines.antt` and
 //! `specs/Refusals.antt`.
-ghost use Rattle.std.specs.Prelude.{◌≡◌, ◌==◌, ◌<◌, ◌≤◌, false, [], ◌∷◌, length, not, IfOk, OnErr, option_map, slice_get, if◌then◌else◌};
-ghost use Rattle.edit_text.specs.Lines.{AreLines, bytes_of, line_at, is_inside, is_end, inserted, split_at, deleted};
+ghost use Rattle.std.specs.Prelude.{◌≡◌, ◌<◌, ◌≤◌, true, false, [], ◌∷◌, length, IfOk, MatchOption, None, OnErr, Some, option_map, slice_get};
+ghost use Rattle.edit_text.specs.Lines.{AreLines, IsPartAt, IsPartBefore, bytes_of, deleted, has_line_feed, inserted, is_inside, line_at, split_at};
+ghost use Rattle.edit_text.specs.Parts.{IsBetween, spelled};
 ghost use Rattle.edit_text.specs.Texts.{IsText, IsUndone, edited, fresh};
 ghost use Rattle.edit_text.specs.Refusals.{IsRefusedBy, insert_refusal, place_refusal};
 ghost use Rattle.edit_text.specs.Finds.{IsFound};
@@ -9,7 +10,8 @@ ghost use Rattle.edit_text.specs.Finds.{IsFound};
 use crate::edits::Edit;
 use crate::faults::EditFault;
 use crate::finding::find;
-use crate::lines::{LINE_FEED, Lines};
+use crate::lines::Lines;
+use crate::parts::{Part, part_start};
 use crate::places::Place;
 use out_of_memory::NoMemory;
 use std::alloc::Global;
@@ -101,22 +103,59 @@ impl Text {
         self.version
     }
 
-    /// Inserts a byte at a place. The place after it is in the next column.
+    /// The part at a place: the character that begins there or the byte, or a line feed at the end of a line but the
+    /// last. `None` at the very end of the text, and outside.
+    pub fn part_at(&self, place: Place) -> Option<Part>
+        ensures inside { is_inside self.now.lines place ≡ true → IsPartAt self.now.lines place result }
+        ensures outside { is_inside self.now.lines place ≡ false → result ≡ None }
+    {
+        if !self.is_inside(place) {
+            return None;
+        }
+        self.lines.part_at(place)
+    }
+
+    /// The part before a place: the character that ends there or the byte, or a line feed at the beginning of a line
+    /// but the first. `None` at the very beginning of the text, and outside.
+    pub fn part_before(&self, place: Place) -> Option<Part>
+        ensures inside { is_inside self.now.lines place ≡ true → IsPartBefore self.now.lines place result }
+        ensures outside { is_inside self.now.lines place ≡ false → result ≡ None }
+    {
+        if !self.is_inside(place) {
+            return None;
+        }
+        self.lines.part_before(place)
+    }
+
+    /// The place itself if it is between parts of its line, and else the one where the character begins that it is
+    /// within.
+    pub fn part_start(&self, place: Place) -> Place
+        ensures line { result.line ≡ place.line }
+        ensures column { IsBetween (line_at self.now.lines place.line) place.column result.column }
+    {
+        let column = part_start(self.lines.bytes_of(place.line), place.column);
+        Place {
+            line: place.line,
+            column,
+        }
+    }
+
+    /// Inserts a part at a place, any character among them. The place after it is behind its bytes.
     ///
-    /// Refused with `OutsideText` if the place is outside the text, then with `LineFeed` if the byte is a line feed,
+    /// Refused with `OutsideText` if the place is outside the text, then with `LineFeed` if the part is a line feed,
     /// then with `NoMemory`.
-    pub fn insert(&mut self, place: Place, byte: u8) -> Result<(), EditFault>
-        ensures refused { IsRefusedBy result (insert_refusal self.old.lines place byte) }
-        ensures ok { IfOk result (λ _. self.new ≡ edited self.old place (inserted self.old.lines place byte)) }
+    pub fn insert(&mut self, place: Place, part: Part) -> Result<(), EditFault>
+        ensures refused { IsRefusedBy result (insert_refusal self.old.lines place part) }
+        ensures ok { IfOk result (λ _. self.new ≡ edited self.old place (inserted self.old.lines place (spelled part))) }
         ensures err { OnErr result (self.new ≡ self.old) }
     {
         if !self.is_inside(place) {
             return Err(EditFault::OutsideText);
         }
-        if byte == LINE_FEED {
+        if part.is_line_feed() {
             return Err(EditFault::LineFeed);
         }
-        self.insert_inside(place, byte)?;
+        self.insert_inside(place, part)?;
         Ok(())
     }
 
@@ -135,24 +174,26 @@ impl Text {
         Ok(())
     }
 
-    /// Deletes the byte at a place, or at the end of a line its line feed: the next line is joined to it. Answers
-    /// whether there was anything to delete; at the very end of the text there is not, and nothing changes.
+    /// Deletes the part at a place, and gives it: a character with all its bytes, or a byte, or at the end of a line
+    /// its line feed, so that the next line is joined to it. `None` at the very end of the text, and nothing changes.
     ///
     /// Refused with `OutsideText` if the place is outside the text, then with `NoMemory`.
-    pub fn delete(&mut self, place: Place) -> Result<bool, EditFault>
+    pub fn delete(&mut self, place: Place) -> Result<Option<Part>, EditFault>
         ensures refused { IsRefusedBy result (place_refusal self.old.lines place) }
-        ensures answer { IfOk result (λ some. some ≡ not (is_end self.old.lines place)) }
-        ensures ok { IfOk result (λ some. self.new ≡ (if some then edited self.old place (deleted self.old.lines place) else self.old)) }
+        ensures part { IfOk result (λ part. IsPartAt self.old.lines place part) }
+        ensures ok { IfOk result (λ part. MatchOption part (self.new ≡ self.old) (λ p. self.new ≡ edited self.old place (deleted self.old.lines place p))) }
         ensures err { OnErr result (self.new ≡ self.old) }
     {
         if !self.is_inside(place) {
             return Err(EditFault::OutsideText);
         }
-        if self.is_end(place) {
-            return Ok(false);
+        match self.lines.part_at(place) {
+            Some(part) => {
+                self.delete_inside(place, part)?;
+                Ok(Some(part))
+            }
+            None => Ok(None),
         }
-        self.delete_inside(place)?;
-        Ok(true)
     }
 
     /// Undoes the last edit that is not undone: brings back the lines before it, and gives the place where it was made.
@@ -195,26 +236,17 @@ impl Text {
         }
     }
 
-    // Whether a place is the very end of the text.
-    fn is_end(&self, place: Place) -> bool
-        requires { place.line < length self.now.lines }
-        ensures { result ≡ is_end self.now.lines place }
-    {
-        let lines = self.line_count();
-        place.line + 1 == lines && place.column == self.line_length(place.line)
-    }
-
-    // Inserts a byte at a place in the text. Fails only when memory runs out.
-    fn insert_inside(&mut self, place: Place, byte: u8) -> Result<(), NoMemory>
+    // Inserts a part at a place in the text. Fails only when memory runs out.
+    fn insert_inside(&mut self, place: Place, part: Part) -> Result<(), NoMemory>
         requires line { place.line < length self.old.lines }
         requires column { place.column ≤ length (line_at self.old.lines place.line) }
-        requires byte { (byte == 10) ≡ false }
-        ensures ok { IfOk result (λ _. self.new ≡ edited self.old place (inserted self.old.lines place byte)) }
+        requires part { has_line_feed (spelled part) ≡ false }
+        ensures ok { IfOk result (λ _. self.new ≡ edited self.old place (inserted self.old.lines place (spelled part))) }
         ensures err { OnErr result (self.new ≡ self.old) }
     {
         self.edits.reserve(1)?;
-        self.lines.insert(place, byte)?;
-        self.edits.push_reserved(Edit::Inserted(place));
+        self.lines.insert(place, part)?;
+        self.edits.push_reserved(Edit::Inserted(place, part));
         self.version = self.version.saturating_add(1);
         Ok(())
     }
@@ -233,16 +265,16 @@ impl Text {
         Ok(())
     }
 
-    // Deletes at a place in the text that is not its end. Fails only when memory runs out.
-    fn delete_inside(&mut self, place: Place) -> Result<(), NoMemory>
+    // Deletes the part at a place in the text. Fails only when memory runs out.
+    fn delete_inside(&mut self, place: Place, part: Part) -> Result<(), NoMemory>
         requires line { place.line < length self.old.lines }
         requires column { place.column ≤ length (line_at self.old.lines place.line) }
-        requires not_end { is_end self.old.lines place ≡ false }
-        ensures ok { IfOk result (λ _. self.new ≡ edited self.old place (deleted self.old.lines place)) }
+        requires part { IsPartAt self.old.lines place (Some part) }
+        ensures ok { IfOk result (λ _. self.new ≡ edited self.old place (deleted self.old.lines place part)) }
         ensures err { OnErr result (self.new ≡ self.old) }
     {
         self.edits.reserve(1)?;
-        let edit = self.lines.delete(place)?;
+        let edit = self.lines.delete(place, part)?;
         self.edits.push_reserved(edit);
         self.version = self.version.saturating_add(1);
         Ok(())

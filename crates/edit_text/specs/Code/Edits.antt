@@ -1,29 +1,30 @@
 -- What is kept of an edit, and what undoing it gives.
-use Rattle.std.specs.Prelude.{◌≡◌, ℕ, suc, ◌<◌, ◌≤◌, List, [], ◌∷◌, length}
+use Rattle.std.specs.Prelude.{◌≡◌, ℕ, suc, ◌+◌, ◌<◌, ◌≤◌, List, [], ◌∷◌, length}
 use Rattle.edit_text.specs.declared.places.Place.{Place}
 use Rattle.edit_text.specs.declared.edits.Edit.{Edit}
 use Rattle.edit_text.specs.declared.edits.Edit.TheVariants.{Inserted, Deleted, Split, Joined}
 use Rattle.edit_text.specs.Lines.{line_at, inserted, removed, split_at, joined}
+use Rattle.edit_text.specs.Parts.{spelled}
 use Rattle.edit_text.specs.Texts.{Step}
 
 -- where an edit was made
 abbrev pub place_of : Edit → Place
-place_of (Inserted place) = place
-place_of (Deleted place byte) = place
+place_of (Inserted place part) = place
+place_of (Deleted place part) = place
 place_of (Split place) = place
 place_of (Joined place) = place
 
 -- the lines before an edit that led to these
 abbrev pub undone : Edit → List (List ℕ) → List (List ℕ)
-undone (Inserted place) lines = removed lines place
-undone (Deleted place byte) lines = inserted lines place byte
+undone (Inserted place part) lines = removed lines place (length (spelled part))
+undone (Deleted place part) lines = inserted lines place (spelled part)
 undone (Split place) lines = joined lines place.line
 undone (Joined place) lines = split_at lines place
 
 -- what the lines after an edit have to hold to undo it
 abbrev pub CanUndo : Edit → List (List ℕ) → Type 0
-CanUndo (Inserted place) lines = (place.line < length lines) × (place.column < length (line_at lines place.line))
-CanUndo (Deleted place byte) lines = (place.line < length lines) × (place.column ≤ length (line_at lines place.line))
+CanUndo (Inserted place part) lines = (place.line < length lines) × (place.column + length (spelled part) ≤ length (line_at lines place.line))
+CanUndo (Deleted place part) lines = (place.line < length lines) × (place.column ≤ length (line_at lines place.line))
 CanUndo (Split place) lines = suc place.line < length lines
 CanUndo (Joined place) lines = (place.line < length lines) × (place.column ≤ length (line_at lines place.line))
 

@@ -140,8 +140,8 @@ impl Desk {
         Ok(())
     }
 
-    /// Sets the background of a window, and replaces the old one in every cell: the old background's byte becomes the
-    /// new one's, its attributes are removed and the new ones added, and its colour pair becomes the new one.
+    /// Sets the background of a window, and replaces the old one in every cell: the old background's character becomes
+    /// the new one's, its attributes are removed and the new ones added, and its colour pair becomes the new one.
     #[tactic(auto, unfolding(crate::specs::Calls::Settings::change_background_call))]
     pub fn change_background(&mut self, win: Win, cell: Cell) -> Result<(), WinFault>
         ensures call { (self.new, result) ≡ change_background_call self.old win.0 cell }

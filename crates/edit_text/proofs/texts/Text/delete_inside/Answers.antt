@@ -9,11 +9,11 @@ invariant_of-self-2 c =
     let place = c.args.place in
     holds_made _ _ _ c.in_ok-edit.edit place c.self.inside.lines _ c.self.inside.version _ c.args.self.now c.self.view_is c.reserve.ensures.items c.push_reserved.ensures.items c.requires.line c.requires.column c.self.invariant
     (λ l k. c.in_ok-edit.ensures.edit)
-    (λ h. subst AreLines (sym c.in_ok-edit.ensures.ok) (lines_deleted c.self.inside.lines place h))
+    (λ h. subst AreLines (sym c.in_ok-edit.ensures.ok) (lines_deleted c.self.inside.lines place c.args.part h))
 
 pub returns-clause-ok : goal.returns-clause-ok
 returns-clause-ok c =
     let place = c.args.place in
-    view_made _ _ _ c.in_ok-edit.edit place c.self.inside.lines _ c.self.inside.version _ c.args.self.now (λ lines. deleted lines place) c.self.view_is c.reserve.ensures.items c.push_reserved.ensures.items c.requires.line c.requires.column
+    view_made _ _ _ c.in_ok-edit.edit place c.self.inside.lines _ c.self.inside.version _ c.args.self.now (λ lines. deleted lines place c.args.part) c.self.view_is c.reserve.ensures.items c.push_reserved.ensures.items c.requires.line c.requires.column
     (λ l k. c.in_ok-edit.ensures.edit)
     c.saturating_add-self-inside.ensures c.in_ok-edit.ensures.ok
