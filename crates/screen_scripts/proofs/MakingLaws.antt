@@ -3,6 +3,9 @@ use Rattle.std.proofs.Common.{rules, ◌≡◌, ◌≢◌, ℕ, Bool, true, fals
 use Rattle.std.proofs.lemmas.List.{append-nil}
 use Rattle.std.specs.Io.KnownBytes.{Appends}
 use Rattle.std.specs.Option.{is_some}
+use Rattle.std.specs.Str.{IsUtf8, chars, is_utf8}
+use Rattle.std.specs.Prelude.{String, string_bytes}
+use Rattle.std.proofs.lemmas.Str.{IsUtf8-from_is_utf8, is_utf8-from_IsUtf8}
 use Rattle.scr_term.specs.declared.operations.operation.Op.{Op}
 use Rattle.scr_term.specs.Operations.Admission.{IsEcma48}
 use Rattle.scr_term.specs.Operations.Ecma48.{Ecma48Laws}
@@ -11,22 +14,26 @@ use Rattle.scr_term.specs.Operations.Steps.{runs}
 use Rattle.scr_term.specs.Operations.Texts.{all_bytes}
 use Rattle.scr_memory.specs.Memories.{Agrees, MemoryView}
 use Rattle.scr_memory.specs.MemoryRuns.{MemoryRuns}
+use Rattle.scr_windows.specs.Calls.Adding.{add_str_call}
 use Rattle.scr_windows.specs.declared.faults.WinFault.{WinFault}
 use Rattle.scr_windows.specs.declared.faults.WinFault.TheVariants as faults
 use Rattle.screen_sessions.specs.declared.answers.Answer.{Answer}
 use Rattle.screen_sessions.specs.declared.answers.Answer.TheVariants.{Refused}
+use Rattle.screen_sessions.specs.declared.answers.Answer.TheVariants as answers
 use Rattle.screen_sessions.specs.declared.calls.Call.{Call}
-use Rattle.screen_sessions.specs.declared.calls.Call.TheVariants.{AddText, MoveCursor, Noutrefresh}
+use Rattle.screen_sessions.specs.declared.calls.Call.TheVariants.{AddStr, AddText, MoveCursor, Noutrefresh}
 use Rattle.curses.specs.declared.faults.Sent.{Sent as SentView}
+use Rattle.screen_sessions.specs.Calls.{told}
 use Rattle.screen_sessions.specs.Making.{IsMade, drawn_of}
 use Rattle.curses.specs.ScreenStates.{ScreenState}
-use Rattle.screen_sessions.specs.Sessions.{Drawn, RightAnswer, begun_of, count_of, is_update, left_by, marked_by, memory_marked, memory_updated, ran_out, screen_call}
+use Rattle.screen_sessions.specs.Sessions.{Drawn, RightAnswer, begun_of, count_of, is_update, left_by, marked_by, memory_marked, memory_updated, ran_out, screen_call, windows_told}
 use Rattle.curses.specs.Updates.{IsSent, IsShown}
 use Rattle.curses.specs.Writers.{WriterView}
 use Rattle.screen_scripts.specs.declared.effects.Effects.{Effects}
-use Rattle.screen_scripts.specs.Stories.{Event, Outcome, Shown, Stage, added, called, fault_name, first_window, followed, made, mark_of, refusal_of, shown, unless_refused, updated}
+use Rattle.screen_scripts.specs.declared.commands.Command.TheVariants.{Text}
+use Rattle.screen_scripts.specs.Stories.{Event, Outcome, Shown, Stage, added, called, continued, fault_name, first_window, followed, made, mark_of, refusal_of, shown, strung, unless_refused, updated}
 use Rattle.screen_scripts.specs.Stories.{Refused as RefusedEvent}
-use Rattle.screen_scripts.specs.Showing.{IsQuiet, IsReady, IsRefusalOf, IsSending, IsSentIf, IsUpdateOf, Obeys, StillAgrees, Updates, event_if, events_in, events_of, shown_if, stage_of, update_in}
+use Rattle.screen_scripts.specs.Showing.{IsQuiet, IsReady, IsRefusalOf, IsSending, IsSentIf, IsUpdateOf, Obeys, ObeysSome, StillAgrees, Updates, event_if, events_in, events_of, shown_if, stage_of, update_in}
 
 -- ---- calls that are no updates
 
@@ -267,3 +274,24 @@ pub quietly_if : {E : Type 0} → (old new : ScreenState) (call : Call) (answer 
     → IsMade old new call answer before after → IfOk result (λ fault. IsRefusalOf answer fault) → IfOk result (λ fault. IsQuiet old new call fault)
 quietly_if old new call answer (Ok fault) before after update ready is refusal = quietly old new call answer fault before after update ready is refusal
 quietly_if old new call answer (Err error) before after update ready is refusal = tt
+
+-- ---- texts of characters
+
+-- characters are added to a window as the call does it, whatever holds the bytes of the text
+string_made : (stage : Stage) (w : ℕ) (text : List ℕ) (string : String Global) → string_bytes string ≡ text → made stage (AddStr (record { 0 = w }) string) ≡ strung stage w text
+unfolding made strung
+string_made stage w text string is =
+    ap (λ t. called stage None (windows_told stage.drawn.virtual (told (λ all. answers.Added all) (add_str_call stage.drawn.desk w (chars t))))) is
+
+pub string_added : (old new : ScreenState) (w : ℕ) (text : List ℕ) (string : String Global) (effects : Effects) → IsUtf8 text → string_bytes string ≡ text
+    → Obeys old new effects (made (stage_of old) (AddStr (record { 0 = w }) string)) → ObeysSome old new effects (continued (stage_of old) (Text w text))
+string_added old new w text string effects valid is obeys =
+    subst (λ b. ObeysSome old new effects (if b then Some (strung (stage_of old) w text) else None)) (sym (is_utf8-from_IsUtf8 text valid))
+    (subst (λ o. Obeys old new effects o) (string_made (stage_of old) w text string is) obeys)
+
+pub string_refused : (stage : Stage) (w : ℕ) (text : List ℕ) → (IsUtf8 text → ⊥) → continued stage (Text w text) ≡ None
+string_refused stage w text bad = by_test (is_utf8 text) refl
+  where
+    by_test : (b : Bool) → is_utf8 text ≡ b → continued stage (Text w text) ≡ None
+    by_test true e = absurd (bad (IsUtf8-from_is_utf8 text e))
+    by_test false e = ap {A = Bool} {B = Option Outcome} (λ b. if b then Some (strung stage w text) else None) e

@@ -4,7 +4,7 @@ use Rattle.std.specs.List.{flat_map}
 use Rattle.std.proofs.lemmas.List.{append-nil}
 use Rattle.std.proofs.lemmas.List.Concat.{flat_map-append}
 use Rattle.scr_term.specs.Operations.Abilities.{full_abilities}
-use Rattle.scr_cells.specs.declared.charsets.Charset.TheVariants.{Ascii}
+use Rattle.scr_cells.specs.declared.charsets.Charset.{Charset}
 use Rattle.scr_cells.specs.LookViews.{negative_grid}
 use Rattle.scr_cells.specs.PictureViews.{PictureView}
 use Rattle.scr_term.specs.declared.operations.operation.Op.{Op}
@@ -32,10 +32,10 @@ use Rattle.screen_scripts.specs.Showing.{AddsScreen, AreSentOn, IsAhead, IsOutpu
 
 -- ---- joined
 
-printed_join : (xs ys : List Event) (a b : List ℕ) → ArePrinted xs a → ArePrinted ys b → ArePrinted (xs ++ ys) (a ++ b)
-printed_join [] ys a b first next = subst (λ t. ArePrinted ys (t ++ b)) (sym first) next
-printed_join (x ∷ xs) ys a b first next =
-    (first.0, first.1 ++ b, ap (λ t. t ++ b) first.2 ∙ append_assoc first.0 first.1 b, first.3, printed_join xs ys first.1 b first.4 next)
+printed_join : (charset : Charset) (xs ys : List Event) (a b : List ℕ) → ArePrinted charset xs a → ArePrinted charset ys b → ArePrinted charset (xs ++ ys) (a ++ b)
+printed_join charset [] ys a b first next = subst (λ t. ArePrinted charset ys (t ++ b)) (sym first) next
+printed_join charset (x ∷ xs) ys a b first next =
+    (first.0, first.1 ++ b, ap (λ t. t ++ b) first.2 ∙ append_assoc first.0 first.1 b, first.3, printed_join charset xs ys first.1 b first.4 next)
 
 runs_join : (profile : ProfileView) (Between After : TerminalState → Type 0) (state : TerminalState) (us vs : List (List Op)) (ps qs : List PictureView) → RunToEnd profile Between state us ps
     → ((next : TerminalState) → Between next → RunToEnd profile After next vs qs) → RunToEnd profile After state (us ++ vs) (ps ++ qs)
@@ -67,7 +67,7 @@ sent_join profile Before Between After old mid new xs ys a b first next = record
 pub output_join : (raw : Bool) (profile : ProfileView) (Before Between After : TerminalState → Type 0) (old mid new : MemoryView) (xs ys : List Event) (a b : List ℕ)
     → IsOutputOn raw profile Before Between old mid xs a → IsOutputOn raw profile Between After mid new ys b → IsOutputOn raw profile Before After old new (xs ++ ys) (a ++ b)
 output_join true profile Before Between After old mid new xs ys a b first next = sent_join profile Before Between After old mid new xs ys a b first next
-output_join false profile Before Between After old mid new xs ys a b first next = printed_join xs ys a b first next
+output_join false profile Before Between After old mid new xs ys a b first next = printed_join profile.charset xs ys a b first next
 
 -- nothing happened, and the terminal may be in no more states than before
 pub output_none : (raw : Bool) (profile : ProfileView) (Before After : TerminalState → Type 0) (old new : MemoryView) → new ≡ old → ((state : TerminalState) → Before state → After state)
@@ -126,28 +126,28 @@ notes_are_no_plans profile old new (Refused fault ∷ notes) events us plans = n
 notes_are_no_plans profile old new (NotTaken fault ∷ notes) events us plans = notes_are_no_plans profile old new notes events us plans
 notes_are_no_plans profile old new (Pressed key ∷ notes) events us plans = notes_are_no_plans profile old new notes events us plans
 
-note_printed : (note : Note) → IsPrinted (event_of note) (note_line note)
-note_printed (Refused fault) = refl
-note_printed (NotTaken fault) = refl
-note_printed (Pressed key) = refl
+note_printed : (charset : Charset) (note : Note) → IsPrinted charset (event_of note) (note_line note)
+note_printed charset (Refused fault) = refl
+note_printed charset (NotTaken fault) = refl
+note_printed charset (Pressed key) = refl
 
-notes_printed : (notes : List Note) (events : List Event) (text : List ℕ) → ArePrinted events text → ArePrinted (events_in notes ++ events) (notes_lines notes ++ text)
-notes_printed [] events text is = is
-notes_printed (note ∷ notes) events text is =
-    (note_line note, notes_lines notes ++ text, append_assoc (note_line note) (notes_lines notes) text, note_printed note, notes_printed notes events text is)
+notes_printed : (charset : Charset) (notes : List Note) (events : List Event) (text : List ℕ) → ArePrinted charset events text → ArePrinted charset (events_in notes ++ events) (notes_lines notes ++ text)
+notes_printed charset [] events text is = is
+notes_printed charset (note ∷ notes) events text is =
+    (note_line note, notes_lines notes ++ text, append_assoc (note_line note) (notes_lines notes) text, note_printed charset note, notes_printed charset notes events text is)
 
 pub printed_alone : (raw : Bool) (profile : ProfileView) (old new : MemoryView) (notes : List Note) (text : List ℕ) → raw ≡ false → text ≡ notes_lines notes
     → IsOutputBetween raw profile old new (events_in notes ++ []) text
 printed_alone raw profile old new notes text mode is =
     subst (λ r. IsOutputBetween r profile old new (events_in notes ++ []) text) (sym mode)
-    (subst (λ t. ArePrinted (events_in notes ++ []) t) (append-nil (notes_lines notes) ∙ sym is) (notes_printed notes [] [] refl))
+    (subst (λ t. ArePrinted profile.charset (events_in notes ++ []) t) (append-nil (notes_lines notes) ∙ sym is) (notes_printed profile.charset notes [] [] refl))
 
 pub printed_shown : (raw : Bool) (profile : ProfileView) (old new : MemoryView) (virtual : VirtualView) (picture : PictureView) (notes : List Note) (lines text : List ℕ) → raw ≡ false
-    → virtual.picture ≡ picture → IsScreenOf picture lines → text ≡ notes_lines notes ++ lines → IsOutputBetween raw profile old new (events_in notes ++ Shown virtual ∷ []) text
+    → virtual.picture ≡ picture → IsScreenOf profile.charset picture lines → text ≡ notes_lines notes ++ lines → IsOutputBetween raw profile old new (events_in notes ++ Shown virtual ∷ []) text
 printed_shown raw profile old new virtual picture notes lines text mode shown screen is =
     subst (λ r. IsOutputBetween r profile old new (events_in notes ++ Shown virtual ∷ []) text) (sym mode)
-    (subst (λ t. ArePrinted (events_in notes ++ Shown virtual ∷ []) t) (sym is)
-    (notes_printed notes (Shown virtual ∷ []) lines (lines, [], sym (append-nil lines), subst (λ p. IsScreenOf p lines) (sym shown) screen, refl)))
+    (subst (λ t. ArePrinted profile.charset (events_in notes ++ Shown virtual ∷ []) t) (sym is)
+    (notes_printed profile.charset notes (Shown virtual ∷ []) lines (lines, [], sym (append-nil lines), subst (λ p. IsScreenOf profile.charset p lines) (sym shown) screen, refl)))
 
 -- an update alone
 sent_one : (profile : ProfileView) (old new : MemoryView) (virtual : VirtualView) (bytes : List ℕ) → IsUpdateOf profile old new virtual bytes
@@ -187,13 +187,13 @@ mark_refuses_none (Some rows) events = refl
 -- ---- the terminal after an update
 
 pub record IsAfter (profile : ProfileView) (memory : MemoryView) (picture : PictureView) (new : ScreenView) : Type 0 where
-  pub shows : ShowsNegative (abilities_for picture) new.state picture
+  pub shows : ShowsNegative (abilities_for profile.charset picture) new.state picture
   pub ready : IsTerminalFor profile memory new
 
-negative_shown : Ecma48Laws → (profile : ProfileView) (picture : PictureView) (state : TerminalState) → IsEcma48 profile → profile.charset ≡ Ascii → Shows (abilities profile) state picture
-    → ShowsNegative (abilities_for picture) (negative_state state) picture
-negative_shown laws profile picture state ecma ascii shows =
-    let full = subst (λ a. Shows a state picture) (ap abilities (laws.made profile ecma) ∙ laws.can_show profile.charset profile.rows profile.columns ∙ ap (λ c. full_abilities c profile.rows profile.columns) ascii) shows in
+negative_shown : Ecma48Laws → (profile : ProfileView) (picture : PictureView) (state : TerminalState) → IsEcma48 profile → Shows (abilities profile) state picture
+    → ShowsNegative (abilities_for profile.charset picture) (negative_state state) picture
+negative_shown laws profile picture state ecma shows =
+    let full = subst (λ a. Shows a state picture) (ap abilities (laws.made profile ecma) ∙ laws.can_show profile.charset profile.rows profile.columns) shows in
     record { grid = ap negative_grid full.grid; spot = full.spot }
 
 pub after_feeding : Ecma48Laws → BytesActAsTheirOperations → ScreensFollowTexts → (profile : ProfileView) → IsEcma48 profile → (before after : MemoryView) (virtual : VirtualView) (picture : PictureView)
@@ -213,11 +213,10 @@ after_feeding laws acts follow profile ecma before after virtual picture old new
     let same : new ≡ record old { state = negative_state shown.new } =
     follow old new bytes (negative_state shown.new) terminal.valid terminal.defined terminal.nothing_waits leads fed in
     record {
-      shows = subst (λ s. ShowsNegative (abilities_for picture) s picture) (sym (ap (λ s. s.state) same)) (negative_shown laws profile picture shown.new ecma terminal.ascii shown.shows);
+      shows = subst (λ s. ShowsNegative (abilities_for profile.charset picture) s picture) (sym (ap (λ s. s.state) same)) (negative_shown laws profile picture shown.new ecma shown.shows);
       ready = record {
         rows = ap (λ s. s.rows) same ∙ terminal.rows;
         charset = ap (λ s. s.charset) same ∙ terminal.charset;
-        ascii = terminal.ascii;
         columns = ap (λ s. s.columns) same ∙ terminal.columns;
         valid = valid;
         state = shown.new;
@@ -229,14 +228,14 @@ after_feeding laws acts follow profile ecma before after virtual picture old new
     }
 
 -- the lines of a screen that shows a picture
-pub adds_screen : {A E : Type 0} → (result : Result A E) (picture : PictureView) (state : TerminalState) (before after : List ℕ) → ShowsNegative (abilities_for picture) state picture
-    → OnOk result (after ≡ before ++ screen_lines state.grid state.spot) → OnOk result (AddsScreen picture before after)
-adds_screen (Ok done) picture state before after shows is = record {
+pub adds_screen : {A E : Type 0} → (result : Result A E) (charset : Charset) (picture : PictureView) (state : TerminalState) (before after : List ℕ) → ShowsNegative (abilities_for charset picture) state picture
+    → OnOk result (after ≡ before ++ screen_lines state.grid state.spot) → OnOk result (AddsScreen charset picture before after)
+adds_screen (Ok done) charset picture state before after shows is = record {
   lines = screen_lines state.grid state.spot;
   is = record { spot = state.spot; wished = shows.spot; lines = ap (λ g. screen_lines g state.spot) shows.grid };
   added = is;
 }
-adds_screen (Err error) picture state before after shows is = tt
+adds_screen (Err error) charset picture state before after shows is = tt
 
 -- rows were marked or not, and nothing was fed
 pub still_terminal : (profile : ProfileView) (old new : MemoryView) (screen : ScreenView) → StillAgrees profile old new → IsTerminalFor profile old screen → IsTerminalFor profile new screen
@@ -244,7 +243,6 @@ still_terminal profile old new screen agrees terminal = record {
   rows = terminal.rows;
   columns = terminal.columns;
   charset = terminal.charset;
-  ascii = terminal.ascii;
   valid = terminal.valid;
   state = terminal.state;
   agrees = agrees.still terminal.state terminal.agrees;
@@ -269,7 +267,7 @@ sent_by items raw profile old new virtual notes (Some b) none result mode sent e
     (sent_one profile old new virtual (items result) (subst (IsUpdateOf profile old new virtual) (sym (ap items is)) sent))
 
 pub printed_some : {A : Type 0} → (raw : Bool) (profile : ProfileView) (old new : MemoryView) (virtual : VirtualView) (picture : PictureView) (notes : List Note) (update : Option A) (b : A)
-    (before text : List ℕ) → raw ≡ false → virtual.picture ≡ picture → update ≡ Some b → before ≡ notes_lines notes → AddsScreen picture before text
+    (before text : List ℕ) → raw ≡ false → virtual.picture ≡ picture → update ≡ Some b → before ≡ notes_lines notes → AddsScreen profile.charset picture before text
     → IsOutputBetween raw profile old new (events_in notes ++ shown_if update virtual) text
 printed_some raw profile old new virtual picture notes update b before text mode shown e is adds =
     subst (λ u. IsOutputBetween raw profile old new (events_in notes ++ shown_if u virtual) text) (sym e)

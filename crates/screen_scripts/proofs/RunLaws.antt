@@ -4,7 +4,7 @@ use Rattle.std.specs.Io.KnownBytes.{Appends, Keeps}
 use Rattle.std.specs.Option.{ForSome}
 use Rattle.std.proofs.lemmas.Bool.Decides.{nat_tests}
 use Rattle.std.proofs.lemmas.List.{append-nil}
-use Rattle.scr_cells.specs.declared.charsets.Charset.TheVariants.{Ascii}
+use Rattle.scr_cells.specs.declared.charsets.Charset.{Charset}
 use Rattle.scr_term.specs.Operations.Ecma48.{ecma48_profile}
 use Rattle.scr_memory.specs.Memories.{MemoryView}
 use Rattle.scr_virtual.specs.VirtualViews.{VirtualView}
@@ -43,29 +43,29 @@ bad_opening line command e bad = outcome_at None line command e ∙ bad
 pub bad_command : (stage : Stage) (line : List ℕ) (command : Command) → command_of line ≡ Some command → continued stage command ≡ None → line_outcome (Some stage) line ≡ None
 bad_command stage line command e bad = outcome_at (Some stage) line command e ∙ bad
 
-opening_writes : (raw : Bool) (line text : List ℕ) (command : Command) (stage : Playing) → command_of line ≡ Some command → Opens command stage → text ≡ []
-    → LineWrites raw None line text (Some stage)
-opening_writes raw line text command stage e is none = record {
+opening_writes : (charset : Charset) (raw : Bool) (line text : List ℕ) (command : Command) (stage : Playing) → command_of line ≡ Some command → Opens charset command stage → text ≡ []
+    → LineWrites charset raw None line text (Some stage)
+opening_writes charset raw line text command stage e is none = record {
   outcome = record { stage = stage_of stage.screen; events = [] };
   is = outcome_at None line command e ∙ is.is;
   stage = stage;
   left = refl;
   same = refl;
   ready = record { screen = is.ready.screen; terminal = λ fed. is.ready.terminal refl };
-  profile = is.profile ∙ ap (λ c. ecma48_profile Ascii (size_in c).0 (size_in c).1) (sym e);
+  profile = is.profile ∙ ap (λ c. ecma48_profile charset (size_in c).0 (size_in c).1) (sym e);
   written = subst (λ t. IsOutputOfLines raw stage.screen.profile None (Some stage) [] t) (sym none)
       (output_none raw stage.screen.profile (MayBeIn stage.screen.profile None) (MayBeIn stage.screen.profile (Some stage)) (memory_in stage.screen.profile None)
       (memory_in stage.screen.profile (Some stage)) is.memory is.agrees);
 }
 
-pub opened_writes : (raw : Bool) (line text : List ℕ) (command : Command) (new : Option Playing) → command_of line ≡ Some command → OpensOn command new → text ≡ []
-    → LineWrites raw None line text new
-opened_writes raw line text command new e is none =
-    subst (λ stage. LineWrites raw None line text stage) (sym is.left) (opening_writes raw line text command is.stage e is.is none)
+pub opened_writes : (charset : Charset) (raw : Bool) (line text : List ℕ) (command : Command) (new : Option Playing) → command_of line ≡ Some command → OpensOn charset command new → text ≡ []
+    → LineWrites charset raw None line text new
+opened_writes charset raw line text command new e is none =
+    subst (λ stage. LineWrites charset raw None line text stage) (sym is.left) (opening_writes charset raw line text command is.stage e is.is none)
 
-pub command_writes : (raw : Bool) (old new : Playing) (line text : List ℕ) (command : Command) → command_of line ≡ Some command → CommandWrites raw old command text new
-    → LineWrites raw (Some old) line text (Some new)
-command_writes raw old new line text command e is = record {
+pub command_writes : (charset : Charset) (raw : Bool) (old new : Playing) (line text : List ℕ) (command : Command) → command_of line ≡ Some command → CommandWrites raw old command text new
+    → LineWrites charset raw (Some old) line text (Some new)
+command_writes charset raw old new line text command e is = record {
   outcome = is.outcome;
   is = outcome_at (Some (stage_of old.screen)) line command e ∙ is.is;
   stage = new;
@@ -76,23 +76,23 @@ command_writes raw old new line text command e is = record {
   written = is.written;
 }
 
-pub command_writes_if : {A E : Type 0} → (items : A → List ℕ) (raw : Bool) (old new : Playing) (line : List ℕ) (command : Command) (result : Result A E) → command_of line ≡ Some command
-    → IfOk result (λ text. CommandWrites raw old command (items text) new) → IfOk result (λ text. LineWrites raw (Some old) line (items text) (Some new))
-command_writes_if items raw old new line command (Ok text) e is = command_writes raw old new line (items text) command e is
-command_writes_if items raw old new line command (Err error) e is = tt
+pub command_writes_if : {A E : Type 0} → (items : A → List ℕ) (charset : Charset) (raw : Bool) (old new : Playing) (line : List ℕ) (command : Command) (result : Result A E) → command_of line ≡ Some command
+    → IfOk result (λ text. CommandWrites raw old command (items text) new) → IfOk result (λ text. LineWrites charset raw (Some old) line (items text) (Some new))
+command_writes_if items charset raw old new line command (Ok text) e is = command_writes charset raw old new line (items text) command e is
+command_writes_if items charset raw old new line command (Err error) e is = tt
 
 -- where all went well, that is so too
 pub on_ok : {A E P Q : Type 0} → (result : Result A E) → (P → Q) → OnOk result P → OnOk result Q
 on_ok (Ok done) so p = so p
 on_ok (Err error) so p = tt
 
-pub line_written : (raw : Bool) (old new : Option Playing) (line text : List ℕ) (held holds : Option (List ℕ)) → LineWrites raw old line text new → Appends held holds text
-    → LineWritten raw old line held holds new
-line_written raw old new line text held holds is written = record { text = text; is = is; written = written }
+pub line_written : (charset : Charset) (raw : Bool) (old new : Option Playing) (line text : List ℕ) (held holds : Option (List ℕ)) → LineWrites charset raw old line text new → Appends held holds text
+    → LineWritten charset raw old line held holds new
+line_written charset raw old new line text held holds is written = record { text = text; is = is; written = written }
 
-pub line_begun : (raw : Bool) (old new : Option Playing) (line text : List ℕ) (held holds : Option (List ℕ)) → LineWrites raw old line text new → GrewByBeginning held holds text
-    → BeginsLine raw old line held holds new
-line_begun raw old new line text held holds is grew = inr (record { text = text; is = is; grew = grew })
+pub line_begun : (charset : Charset) (raw : Bool) (old new : Option Playing) (line text : List ℕ) (held holds : Option (List ℕ)) → LineWrites charset raw old line text new → GrewByBeginning held holds text
+    → BeginsLine charset raw old line held holds new
+line_begun charset raw old new line text held holds is grew = inr (record { text = text; is = is; grew = grew })
 
 -- ---- the refusals of one line
 
@@ -133,8 +133,8 @@ command_written raw old new screen effects command text obeys same ready written
           (written (memory_marked old.screen.memory o.2.rows) o.2.virtual o.2.update)));
     }
 
-opening_adds : (line text : List ℕ) (command : Command) (stage : Playing) → command_of line ≡ Some command → Opens command stage → AddsRefusals None line text text (Some stage)
-opening_adds line text command stage e is = record {
+opening_adds : (charset : Charset) (line text : List ℕ) (command : Command) (stage : Playing) → command_of line ≡ Some command → Opens charset command stage → AddsRefusals None line text text (Some stage)
+opening_adds charset line text command stage e is = record {
   outcome = record { stage = stage_of stage.screen; events = [] };
   is = outcome_at None line command e ∙ is.is;
   stage = stage;
@@ -144,8 +144,8 @@ opening_adds line text command stage e is = record {
   added = sym (append-nil text);
 }
 
-pub opened_adds : (line text : List ℕ) (command : Command) (new : Option Playing) → command_of line ≡ Some command → OpensOn command new → AddsRefusals None line text text new
-opened_adds line text command new e is = subst (λ stage. AddsRefusals None line text text stage) (sym is.left) (opening_adds line text command is.stage e is.is)
+pub opened_adds : (charset : Charset) (line text : List ℕ) (command : Command) (new : Option Playing) → command_of line ≡ Some command → OpensOn charset command new → AddsRefusals None line text text new
+opened_adds charset line text command new e is = subst (λ stage. AddsRefusals None line text text stage) (sym is.left) (opening_adds charset line text command is.stage e is.is)
 
 not_fed : false ≡ true → ⊥
 not_fed e = (cc)
@@ -197,54 +197,54 @@ story_ends n stage rest line after e bad =
 -- ---- a run, line by line
 
 -- the profile is that of the script's size
-profile_after : (script rest line after : List ℕ) (old : Option Playing) → (old ≡ None → rest ≡ script) → ForSome old (λ s. s.screen.profile ≡ profile_of script)
-    → lines_of rest ≡ line ∷ lines_of after → profile_then old line ≡ profile_of script
-profile_after script rest line after None first is e = ap (λ lines. ecma48_profile Ascii (size_on lines).0 (size_on lines).1) (sym e ∙ ap lines_of (first refl))
-profile_after script rest line after (Some stage) first is e = is stage refl
+profile_after : (charset : Charset) (script rest line after : List ℕ) (old : Option Playing) → (old ≡ None → rest ≡ script) → ForSome old (λ s. s.screen.profile ≡ profile_of charset script)
+    → lines_of rest ≡ line ∷ lines_of after → profile_then charset old line ≡ profile_of charset script
+profile_after charset script rest line after None first is e = ap (λ lines. ecma48_profile charset (size_on lines).0 (size_on lines).1) (sym e ∙ ap lines_of (first refl))
+profile_after charset script rest line after (Some stage) first is e = is stage refl
 
 -- what is written so far is an output of what happened so far, and that and what the rest tells are the script's story
-pub record SoFar (raw : Bool) (script : List ℕ) (old now : Option (List ℕ)) (number : ℕ) (stage : Option Playing) (rest : List ℕ) : Type 0 where
+pub record SoFar (charset : Charset) (raw : Bool) (script : List ℕ) (old now : Option (List ℕ)) (number : ℕ) (stage : Option Playing) (rest : List ℕ) : Type 0 where
   pub ready : ForSome stage (IsReadyStage (not raw))
-  pub profile : ForSome stage (λ s. s.screen.profile ≡ profile_of script)
+  pub profile : ForSome stage (λ s. s.screen.profile ≡ profile_of charset script)
   pub first : stage ≡ None → rest ≡ script
   pub before : List Event
   pub text : List ℕ
-  pub output : IsOutputOfLines raw (profile_of script) None stage before text
+  pub output : IsOutputOfLines raw (profile_of charset script) None stage before text
   pub written : Appends old now text
   pub events : before ++ (story_on number (stages_of stage) (lines_of rest)).events ≡ (story_of script).events
   pub bad_line : (story_on number (stages_of stage) (lines_of rest)).bad_line ≡ (story_of script).bad_line
 
-so_far_first : (raw : Bool) (script : List ℕ) (now : Option (List ℕ)) → SoFar raw script now now 1 None script
-so_far_first raw script now = record {
+so_far_first : (charset : Charset) (raw : Bool) (script : List ℕ) (now : Option (List ℕ)) → SoFar charset raw script now now 1 None script
+so_far_first charset raw script now = record {
   ready = λ s e. absurd (none_is_none s e);
   profile = λ s e. absurd (none_is_none s e);
   first = λ e. refl;
   before = [];
   text = [];
-  output = output_none raw (profile_of script) (MayBeIn (profile_of script) None) (MayBeIn (profile_of script) None) (memory_in (profile_of script) None) (memory_in (profile_of script) None) refl
+  output = output_none raw (profile_of charset script) (MayBeIn (profile_of charset script) None) (MayBeIn (profile_of charset script) None) (memory_in (profile_of charset script) None) (memory_in (profile_of charset script) None) refl
       (λ state is. is);
   written = appends_none now;
   events = refl;
   bad_line = refl;
 }
 
-pub so_far_opened : (raw : Bool) (script : List ℕ) (now : Option (List ℕ)) (stage : Option Playing) → stage ≡ None → SoFar raw script now now 1 stage script
-so_far_opened raw script now stage none = subst (λ stage. SoFar raw script now now 1 stage script) (sym none) (so_far_first raw script now)
+pub so_far_opened : (charset : Charset) (raw : Bool) (script : List ℕ) (now : Option (List ℕ)) (stage : Option Playing) → stage ≡ None → SoFar charset raw script now now 1 stage script
+so_far_opened charset raw script now stage none = subst (λ stage. SoFar charset raw script now now 1 stage script) (sym none) (so_far_first charset raw script now)
 
 -- an output of one line more
-output_more : (raw : Bool) (script : List ℕ) (old now : Option (List ℕ)) (number : ℕ) (stage new : Option Playing) (rest line after text : List ℕ)
-    → (so : SoFar raw script old now number stage rest) → lines_of rest ≡ line ∷ lines_of after → (writes : LineWrites raw stage line text new)
-    → IsOutputOfLines raw (profile_of script) None new (so.before ++ writes.outcome.events) (so.text ++ text)
-output_more raw script old now number stage new rest line after text so e writes =
-    output_join raw (profile_of script) (MayBeIn (profile_of script) None) (MayBeIn (profile_of script) stage) (MayBeIn (profile_of script) new)
-    (memory_in (profile_of script) None) (memory_in (profile_of script) stage) (memory_in (profile_of script) new) so.before writes.outcome.events so.text text so.output
-    (subst (λ p. IsOutputOfLines raw p stage new writes.outcome.events text) (writes.profile ∙ profile_after script rest line after stage so.first so.profile e) writes.written)
+output_more : (charset : Charset) (raw : Bool) (script : List ℕ) (old now : Option (List ℕ)) (number : ℕ) (stage new : Option Playing) (rest line after text : List ℕ)
+    → (so : SoFar charset raw script old now number stage rest) → lines_of rest ≡ line ∷ lines_of after → (writes : LineWrites charset raw stage line text new)
+    → IsOutputOfLines raw (profile_of charset script) None new (so.before ++ writes.outcome.events) (so.text ++ text)
+output_more charset raw script old now number stage new rest line after text so e writes =
+    output_join raw (profile_of charset script) (MayBeIn (profile_of charset script) None) (MayBeIn (profile_of charset script) stage) (MayBeIn (profile_of charset script) new)
+    (memory_in (profile_of charset script) None) (memory_in (profile_of charset script) stage) (memory_in (profile_of charset script) new) so.before writes.outcome.events so.text text so.output
+    (subst (λ p. IsOutputOfLines raw p stage new writes.outcome.events text) (writes.profile ∙ profile_after charset script rest line after stage so.first so.profile e) writes.written)
 
 -- the story with one line more
-story_more : (raw : Bool) (script : List ℕ) (old now : Option (List ℕ)) (number : ℕ) (stage new : Option Playing) (rest line after text : List ℕ)
-    → (so : SoFar raw script old now number stage rest) → lines_of rest ≡ line ∷ lines_of after → (writes : LineWrites raw stage line text new)
+story_more : (charset : Charset) (raw : Bool) (script : List ℕ) (old now : Option (List ℕ)) (number : ℕ) (stage new : Option Playing) (rest line after text : List ℕ)
+    → (so : SoFar charset raw script old now number stage rest) → lines_of rest ≡ line ∷ lines_of after → (writes : LineWrites charset raw stage line text new)
     → (so.before ++ writes.outcome.events) ++ (story_on (next_number number) (stages_of new) (lines_of after)).events ≡ (story_of script).events
-story_more raw script old now number stage new rest line after text so e writes =
+story_more charset raw script old now number stage new rest line after text so e writes =
     append_assoc so.before writes.outcome.events (story_on (next_number number) (stages_of new) (lines_of after)).events
     ∙ ap (λ s. so.before ++ s.events) (sym (story_step number (stages_of stage) rest line after writes.outcome new writes.stage e writes.is writes.left writes.same))
     ∙ so.events
@@ -252,45 +252,45 @@ story_more raw script old now number stage new rest line after text so e writes 
 left_is : (playing s : Playing) (new : Option Playing) → new ≡ Some playing → new ≡ Some s → playing ≡ s
 left_is playing s new left e = some_same playing s (sym left ∙ e)
 
-pub so_far_more : (raw : Bool) (script : List ℕ) (old now next : Option (List ℕ)) (number : ℕ) (stage new : Option Playing) (rest line after text : List ℕ)
-    → SoFar raw script old now number stage rest → lines_of rest ≡ line ∷ lines_of after → LineWrites raw stage line text new → Appends now next text
-    → SoFar raw script old next (next_number number) new after
-so_far_more raw script old now next number stage new rest line after text so e writes appends = record {
+pub so_far_more : (charset : Charset) (raw : Bool) (script : List ℕ) (old now next : Option (List ℕ)) (number : ℕ) (stage new : Option Playing) (rest line after text : List ℕ)
+    → SoFar charset raw script old now number stage rest → lines_of rest ≡ line ∷ lines_of after → LineWrites charset raw stage line text new → Appends now next text
+    → SoFar charset raw script old next (next_number number) new after
+so_far_more charset raw script old now next number stage new rest line after text so e writes appends = record {
   ready = λ s is. subst (IsReadyStage (not raw)) (left_is writes.stage s new writes.left is) writes.ready;
-  profile = λ s is. subst (λ p. p.screen.profile ≡ profile_of script) (left_is writes.stage s new writes.left is) (writes.profile ∙ profile_after script rest line after stage so.first so.profile e);
+  profile = λ s is. subst (λ p. p.screen.profile ≡ profile_of charset script) (left_is writes.stage s new writes.left is) (writes.profile ∙ profile_after charset script rest line after stage so.first so.profile e);
   first = λ none. absurd (none_is_none writes.stage (sym none ∙ writes.left));
   before = so.before ++ writes.outcome.events;
   text = so.text ++ text;
-  output = output_more raw script old now number stage new rest line after text so e writes;
+  output = output_more charset raw script old now number stage new rest line after text so e writes;
   written = appends_more old now next so.text text so.written appends;
-  events = story_more raw script old now number stage new rest line after text so e writes;
+  events = story_more charset raw script old now number stage new rest line after text so e writes;
   bad_line = sym (ap (λ s. s.bad_line) (story_step number (stages_of stage) rest line after writes.outcome new writes.stage e writes.is writes.left writes.same)) ∙ so.bad_line;
 }
 
 -- ---- its ends
 
 -- all that happened so far is written
-pub so_far_begins : (raw : Bool) (script : List ℕ) (old now new : Option (List ℕ)) (number : ℕ) (stage : Option Playing) (rest : List ℕ) → SoFar raw script old now number stage rest → Keeps now new
-    → Begins raw script old new
-so_far_begins raw script old now new number stage rest so kept = record {
+pub so_far_begins : (charset : Charset) (raw : Bool) (script : List ℕ) (old now new : Option (List ℕ)) (number : ℕ) (stage : Option Playing) (rest : List ℕ) → SoFar charset raw script old now number stage rest → Keeps now new
+    → Begins charset raw script old new
+so_far_begins charset raw script old now new number stage rest so kept = record {
   first = so.before;
   later = (story_on number (stages_of stage) (lines_of rest)).events;
   story = sym so.events;
   text = so.text;
-  output = output_at_last raw (profile_of script) (MayBeIn (profile_of script) stage) (memory_in (profile_of script) stage) so.before so.text so.output;
+  output = output_at_last raw (profile_of charset script) (MayBeIn (profile_of charset script) stage) (memory_in (profile_of charset script) stage) so.before so.text so.output;
   grew = record { beginning = so.text; rest = []; whole = sym (append-nil so.text); written = appends_kept old now new so.text so.written kept };
 }
 
 -- a beginning of one line more is written
-so_far_begun : (raw : Bool) (script : List ℕ) (old now next : Option (List ℕ)) (number : ℕ) (stage new : Option Playing) (rest line after text : List ℕ)
-    → SoFar raw script old now number stage rest → lines_of rest ≡ line ∷ lines_of after → LineWrites raw stage line text new → GrewByBeginning now next text → Begins raw script old next
-so_far_begun raw script old now next number stage new rest line after text so e writes grew = record {
+so_far_begun : (charset : Charset) (raw : Bool) (script : List ℕ) (old now next : Option (List ℕ)) (number : ℕ) (stage new : Option Playing) (rest line after text : List ℕ)
+    → SoFar charset raw script old now number stage rest → lines_of rest ≡ line ∷ lines_of after → LineWrites charset raw stage line text new → GrewByBeginning now next text → Begins charset raw script old next
+so_far_begun charset raw script old now next number stage new rest line after text so e writes grew = record {
   first = so.before ++ writes.outcome.events;
   later = (story_on (next_number number) (stages_of new) (lines_of after)).events;
-  story = sym (story_more raw script old now number stage new rest line after text so e writes);
+  story = sym (story_more charset raw script old now number stage new rest line after text so e writes);
   text = so.text ++ text;
-  output = output_at_last raw (profile_of script) (MayBeIn (profile_of script) new) (memory_in (profile_of script) new) (so.before ++ writes.outcome.events) (so.text ++ text)
-      (output_more raw script old now number stage new rest line after text so e writes);
+  output = output_at_last raw (profile_of charset script) (MayBeIn (profile_of charset script) new) (memory_in (profile_of charset script) new) (so.before ++ writes.outcome.events) (so.text ++ text)
+      (output_more charset raw script old now number stage new rest line after text so e writes);
   grew = record {
     beginning = so.text ++ grew.beginning;
     rest = grew.rest;
@@ -300,28 +300,28 @@ so_far_begun raw script old now next number stage new rest line after text so e 
 }
 
 -- a line was begun, or nothing of it was written
-pub so_far_cut : (raw : Bool) (script : List ℕ) (old now next : Option (List ℕ)) (number : ℕ) (stage new : Option Playing) (rest line after : List ℕ)
-    → SoFar raw script old now number stage rest → lines_of rest ≡ line ∷ lines_of after → BeginsLine raw stage line now next new → Begins raw script old next
-so_far_cut raw script old now next number stage new rest line after so e (inl kept) = so_far_begins raw script old now next number stage rest so kept
-so_far_cut raw script old now next number stage new rest line after so e (inr begun) =
-    so_far_begun raw script old now next number stage new rest line after begun.text so e begun.is begun.grew
+pub so_far_cut : (charset : Charset) (raw : Bool) (script : List ℕ) (old now next : Option (List ℕ)) (number : ℕ) (stage new : Option Playing) (rest line after : List ℕ)
+    → SoFar charset raw script old now number stage rest → lines_of rest ≡ line ∷ lines_of after → BeginsLine charset raw stage line now next new → Begins charset raw script old next
+so_far_cut charset raw script old now next number stage new rest line after so e (inl kept) = so_far_begins charset raw script old now next number stage rest so kept
+so_far_cut charset raw script old now next number stage new rest line after so e (inr begun) =
+    so_far_begun charset raw script old now next number stage new rest line after begun.text so e begun.is begun.grew
 
 -- where nothing is left, all is written
-writes_all : (raw : Bool) (script : List ℕ) (old now new : Option (List ℕ)) (number : ℕ) (stage : Option Playing) (rest : List ℕ) → (so : SoFar raw script old now number stage rest) → Keeps now new
-    → (story_on number (stages_of stage) (lines_of rest)).events ≡ [] → Writes raw script (story_of script).events old new
-writes_all raw script old now new number stage rest so kept none =
-    subst (λ events. Writes raw script events old new) (sym (append-nil so.before) ∙ ap (λ t. so.before ++ t) (sym none) ∙ so.events)
+writes_all : (charset : Charset) (raw : Bool) (script : List ℕ) (old now new : Option (List ℕ)) (number : ℕ) (stage : Option Playing) (rest : List ℕ) → (so : SoFar charset raw script old now number stage rest) → Keeps now new
+    → (story_on number (stages_of stage) (lines_of rest)).events ≡ [] → Writes charset raw script (story_of script).events old new
+writes_all charset raw script old now new number stage rest so kept none =
+    subst (λ events. Writes charset raw script events old new) (sym (append-nil so.before) ∙ ap (λ t. so.before ++ t) (sym none) ∙ so.events)
     (record {
       text = so.text;
-      output = output_at_last raw (profile_of script) (MayBeIn (profile_of script) stage) (memory_in (profile_of script) stage) so.before so.text so.output;
+      output = output_at_last raw (profile_of charset script) (MayBeIn (profile_of charset script) stage) (memory_in (profile_of charset script) stage) so.before so.text so.output;
       written = appends_kept old now new so.text so.written kept;
     })
 
-pub so_far_whole : (raw : Bool) (script : List ℕ) (old now new : Option (List ℕ)) (number : ℕ) (stage : Option Playing) (rest : List ℕ) → SoFar raw script old now number stage rest → rest ≡ []
-    → Keeps now new → ((story_of script).bad_line ≡ None) × Writes raw script (story_of script).events old new
-so_far_whole raw script old now new number stage rest so ended kept =
+pub so_far_whole : (charset : Charset) (raw : Bool) (script : List ℕ) (old now new : Option (List ℕ)) (number : ℕ) (stage : Option Playing) (rest : List ℕ) → SoFar charset raw script old now number stage rest → rest ≡ []
+    → Keeps now new → ((story_of script).bad_line ≡ None) × Writes charset raw script (story_of script).events old new
+so_far_whole charset raw script old now new number stage rest so ended kept =
     let story : story_on number (stages_of stage) (lines_of rest) ≡ record { events = []; bad_line = None } = ap (λ r. story_on number (stages_of stage) (lines_of r)) ended in
-    (sym so.bad_line ∙ ap (λ s. s.bad_line) story, writes_all raw script old now new number stage rest so kept (ap (λ s. s.events) story))
+    (sym so.bad_line ∙ ap (λ s. s.bad_line) story, writes_all charset raw script old now new number stage rest so kept (ap (λ s. s.events) story))
 
 zero_of : (n : ℕ) → (n == 0) ≡ true → n ≡ 0
 zero_of n h = grind (arith, nat_tests)
@@ -337,19 +337,19 @@ pub when_ok : {A E P : Type 0} → (result : Result A E) → P → OnOk result P
 when_ok (Ok done) p = p
 when_ok (Err error) p = tt
 
-so_far_ends : (raw : Bool) (script : List ℕ) (old now new : Option (List ℕ)) (number : ℕ) (stage : Option Playing) (rest line after : List ℕ) → SoFar raw script old now number stage rest
+so_far_ends : (charset : Charset) (raw : Bool) (script : List ℕ) (old now new : Option (List ℕ)) (number : ℕ) (stage : Option Playing) (rest line after : List ℕ) → SoFar charset raw script old now number stage rest
     → lines_of rest ≡ line ∷ lines_of after → line_outcome (stages_of stage) line ≡ None → Keeps now new
-    → ((story_of script).bad_line ≡ Some number) × Writes raw script (story_of script).events old new
-so_far_ends raw script old now new number stage rest line after so e bad kept =
+    → ((story_of script).bad_line ≡ Some number) × Writes charset raw script (story_of script).events old new
+so_far_ends charset raw script old now new number stage rest line after so e bad kept =
     let story = story_ends number (stages_of stage) rest line after e bad in
-    (sym so.bad_line ∙ ap (λ s. s.bad_line) story, writes_all raw script old now new number stage rest so kept (ap (λ s. s.events) story))
+    (sym so.bad_line ∙ ap (λ s. s.bad_line) story, writes_all charset raw script old now new number stage rest so kept (ap (λ s. s.events) story))
 
 -- the same for any number that is the line's
-pub so_far_bad : (raw : Bool) (script : List ℕ) (old now new : Option (List ℕ)) (number n : ℕ) (stage : Option Playing) (rest line after : List ℕ) → SoFar raw script old now number stage rest
+pub so_far_bad : (charset : Charset) (raw : Bool) (script : List ℕ) (old now new : Option (List ℕ)) (number n : ℕ) (stage : Option Playing) (rest line after : List ℕ) → SoFar charset raw script old now number stage rest
     → lines_of rest ≡ line ∷ lines_of after → (number ≡ n) × (line_outcome (stages_of stage) line ≡ None) × Keeps now new
-    → ((story_of script).bad_line ≡ Some n) × Writes raw script (story_of script).events old new
-so_far_bad raw script old now new number n stage rest line after so e bad =
-    let ends = so_far_ends raw script old now new number stage rest line after so e bad.1 bad.2 in
+    → ((story_of script).bad_line ≡ Some n) × Writes charset raw script (story_of script).events old new
+so_far_bad charset raw script old now new number n stage rest line after so e bad =
+    let ends = so_far_ends charset raw script old now new number stage rest line after so e bad.1 bad.2 in
     (ends.0 ∙ ap {A = ℕ} {B = Option ℕ} (λ m. Some m) bad.0, ends.1)
 
 -- ---- refusals

@@ -3,13 +3,13 @@ use Rattle.std.proofs.Common.{◌≡◌, ℕ, zero, suc, ◌<◌, ◌≤◌, ◌
 use Rattle.std.proofs.lemmas.Bool.Decides.{nat_tests}
 use Rattle.std.proofs.lemmas.List.FromFn.{get_or-map-range_with_len}
 use Rattle.scr_term.specs.Operations.Bundled.{BundledIsEcma48}
-use Rattle.scr_cells.specs.declared.charsets.Charset.TheVariants.{Ascii}
+use Rattle.scr_cells.specs.declared.charsets.Charset.{Charset}
 use Rattle.scr_cells.specs.PictureViews.{IsSize}
 use Rattle.scr_cells.specs.declared.sizes.Size.{Size}
 use Rattle.ti_caps.specs.Bundled.{IsBundled, bundled_texts, listed}
 use Rattle.ti_caps.specs.Description.{Description, text_at}
 use Rattle.scr_keys.specs.Tables.{is_key, keys_below, keys_of, text_of_key, with_key, without_padding}
-use Rattle.scr_term.specs.Operations.Admission.{IsAdmitted, IsEcma48, admitted}
+use Rattle.scr_term.specs.Operations.Admission.{IsAdmittedAs, IsEcma48, admitted}
 use Rattle.scr_term.specs.Operations.Ecma48.{Ecma48Laws, ecma48_profile}
 use Rattle.scr_term.specs.Operations.Laws.{BlankLaws}
 use Rattle.scr_term.specs.Operations.Profiles.{ProfileView, abilities}
@@ -43,17 +43,17 @@ keys_are entry is = same_below entry bundled_description 512 (λ slot few. is.te
 
 -- ---- its profile
 
-rows_are : (entry : Description) (size : Size) (profile : ProfileView) → IsAdmitted entry (Some size) profile → profile.rows ≡ size.rows
+rows_are : (charset : Charset) (entry : Description) (size : Size) (profile : ProfileView) → IsAdmittedAs charset entry (Some size) profile → profile.rows ≡ size.rows
 unfolding admitted
-rows_are entry size profile is = ap {A = ProfileView} (λ p. p.rows) is.made
+rows_are charset entry size profile is = ap {A = ProfileView} (λ p. p.rows) is.made
 
-columns_are : (entry : Description) (size : Size) (profile : ProfileView) → IsAdmitted entry (Some size) profile → profile.columns ≡ size.columns
+columns_are : (charset : Charset) (entry : Description) (size : Size) (profile : ProfileView) → IsAdmittedAs charset entry (Some size) profile → profile.columns ≡ size.columns
 unfolding admitted
-columns_are entry size profile is = ap {A = ProfileView} (λ p. p.columns) is.made
+columns_are charset entry size profile is = ap {A = ProfileView} (λ p. p.columns) is.made
 
-ascii_is : (entry : Description) (size : Size) (profile : ProfileView) → IsAdmitted entry (Some size) profile → profile.charset ≡ Ascii
+charset_is : (charset : Charset) (entry : Description) (size : Size) (profile : ProfileView) → IsAdmittedAs charset entry (Some size) profile → profile.charset ≡ charset
 unfolding admitted
-ascii_is entry size profile is = ap {A = ProfileView} (λ p. p.charset) is.made
+charset_is charset entry size profile is = ap {A = ProfileView} (λ p. p.charset) is.made
 
 -- ---- a blank stage
 
@@ -63,14 +63,13 @@ agrees_at_first : Ecma48Laws → MemoryRuns → (profile : ProfileView) (memory 
 agrees_at_first laws memories profile memory ecma is state valid =
     subst (λ m. Agrees (abilities profile) m state) (sym is) (memories.at_first profile (laws.is_profile profile ecma) state valid)
 
-blank_terminal : Ecma48Laws → BlankLaws → MemoryRuns → (rows columns : ℕ) (profile : ProfileView) (memory : MemoryView) (terminal : ScreenView) → IsEcma48 profile → profile.charset ≡ Ascii
-    → memory ≡ unknown profile.rows profile.columns → profile.rows ≡ rows → profile.columns ≡ columns → terminal ≡ blank_screen Ascii rows columns → IsScreen terminal
+blank_terminal : Ecma48Laws → BlankLaws → MemoryRuns → (charset : Charset) (rows columns : ℕ) (profile : ProfileView) (memory : MemoryView) (terminal : ScreenView) → IsEcma48 profile → profile.charset ≡ charset
+    → memory ≡ unknown profile.rows profile.columns → profile.rows ≡ rows → profile.columns ≡ columns → terminal ≡ blank_screen charset rows columns → IsScreen terminal
     → IsTerminalFor profile memory terminal
-blank_terminal laws blanks memories rows columns profile memory terminal ecma ascii nothing r c is valid = record {
+blank_terminal laws blanks memories charset rows columns profile memory terminal ecma spoken nothing r c is valid = record {
   rows = ap (λ t. t.rows) is ∙ sym r;
   columns = ap (λ t. t.columns) is ∙ sym c;
-  charset = ap (λ t. t.charset) is ∙ sym ascii;
-  ascii = ascii;
+  charset = ap (λ t. t.charset) is ∙ sym spoken;
   valid = valid;
   state = blank_state profile.rows profile.columns;
   agrees = agrees_at_first laws memories profile memory ecma nothing (blank_state profile.rows profile.columns) (blanks.state profile (laws.is_profile profile ecma));
@@ -79,26 +78,26 @@ blank_terminal laws blanks memories rows columns profile memory terminal ecma as
   defined = ap (λ t. t.undefined) is;
 }
 
-pub blank_ready : BundledIsEcma48 → Ecma48Laws → BlankLaws → MemoryRuns → (size : Size) (screen : ScreenState) → IsOpenedOn size screen
-    → (terminal : ScreenView) → terminal ≡ blank_screen Ascii size.rows size.columns → IsScreen terminal → IsReadyStage true (record { screen = screen; terminal = terminal })
-blank_ready bundled_laws laws blanks memories size screen opened terminal blank valid =
+pub blank_ready : BundledIsEcma48 → Ecma48Laws → BlankLaws → MemoryRuns → (charset : Charset) (size : Size) (screen : ScreenState) → IsOpenedOn charset size screen
+    → (terminal : ScreenView) → terminal ≡ blank_screen charset size.rows size.columns → IsScreen terminal → IsReadyStage true (record { screen = screen; terminal = terminal })
+blank_ready bundled_laws laws blanks memories charset size screen opened terminal blank valid =
     let entry = opened.entry in
     let is = opened.is in
-    let ecma = bundled_laws Ascii entry (Some size) screen.profile opened.bundled is.profile in
+    let ecma = bundled_laws charset entry (Some size) screen.profile opened.bundled is.profile in
     record {
       screen = record { entry = ecma; nothing = is.owed };
-      terminal = λ on. blank_terminal laws blanks memories size.rows size.columns screen.profile screen.memory terminal ecma (ascii_is entry size screen.profile is.profile) is.memory (rows_are entry size screen.profile is.profile)
-          (columns_are entry size screen.profile is.profile) blank valid;
+      terminal = λ on. blank_terminal laws blanks memories charset size.rows size.columns screen.profile screen.memory terminal ecma (charset_is charset entry size screen.profile is.profile) is.memory (rows_are charset entry size screen.profile is.profile)
+          (columns_are charset entry size screen.profile is.profile) blank valid;
     }
 
-pub blank_first : BundledIsEcma48 → Ecma48Laws → MemoryRuns → (size : Size) (screen : ScreenState) → IsOpenedOn size screen
-    → (terminal : ScreenView) → IsFirst size.rows size.columns (record { screen = screen; terminal = terminal })
-blank_first bundled_laws laws memories size screen opened terminal =
+pub blank_first : BundledIsEcma48 → Ecma48Laws → MemoryRuns → (charset : Charset) (size : Size) (screen : ScreenState) → IsOpenedOn charset size screen
+    → (terminal : ScreenView) → IsFirst charset size.rows size.columns (record { screen = screen; terminal = terminal })
+blank_first bundled_laws laws memories charset size screen opened terminal =
     let entry = opened.entry in
     let bundled = opened.bundled in
     let is = opened.is in
-    let rows = rows_are entry size screen.profile is.profile in
-    let columns = columns_are entry size screen.profile is.profile in
+    let rows = rows_are charset entry size screen.profile is.profile in
+    let columns = columns_are charset entry size screen.profile is.profile in
     record {
       is = λ i. record {
         drawn = record {
@@ -107,9 +106,9 @@ blank_first bundled_laws laws memories size screen opened terminal =
         };
         keys = record { keys = (is.keys.all ∙ keys_are entry bundled) i; queue = is.queue i; waiting = is.waiting i };
       };
-      profile = laws.made screen.profile (bundled_laws Ascii entry (Some size) screen.profile bundled is.profile) ∙ (λ i. ecma48_profile (ascii_is entry size screen.profile is.profile i) (rows i) (columns i));
+      profile = laws.made screen.profile (bundled_laws charset entry (Some size) screen.profile bundled is.profile) ∙ (λ i. ecma48_profile (charset_is charset entry size screen.profile is.profile i) (rows i) (columns i));
       memory = is.memory;
-      agrees = agrees_at_first laws memories screen.profile screen.memory (bundled_laws Ascii entry (Some size) screen.profile bundled is.profile) is.memory;
+      agrees = agrees_at_first laws memories screen.profile screen.memory (bundled_laws charset entry (Some size) screen.profile bundled is.profile) is.memory;
     }
 
 -- ---- the first command
@@ -120,8 +119,8 @@ size_test rows columns size = by_parts size.some_rows size.few_rows size.some_co
     by_parts : 1 ≤ rows → rows ≤ 500 → 1 ≤ columns → columns ≤ 500 → (nat_le 1 rows && nat_le rows 500 && nat_le 1 columns && nat_le columns 500) ≡ true
     by_parts a b c d = grind (arith, nat_tests)
 
-pub opens : (rows columns : ℕ) (stage : Playing) → IsSize rows columns → IsReadyStage true stage → IsFirst rows columns stage → Opens (SizeCommand rows columns) stage
-opens rows columns stage size ready first = record {
+pub opens : (charset : Charset) (rows columns : ℕ) (stage : Playing) → IsSize rows columns → IsReadyStage true stage → IsFirst charset rows columns stage → Opens charset (SizeCommand rows columns) stage
+opens charset rows columns stage size ready first = record {
   is = ap {A = Bool} {B = Option Outcome} (λ b. if b then Some (record { stage = first_stage rows columns; events = [] }) else None) (size_test rows columns size)
       ∙ ap {A = Stage} {B = Option Outcome} (λ s. Some (record { stage = s; events = [] })) (sym first.is);
   profile = first.profile;

@@ -2,11 +2,12 @@
 use Rattle.std.specs.Prelude.{ℕ, nat_le, false, List, [], ◌∷◌, Option, Some, None, option_and_then, option_map, codes, if◌then◌else◌}
 use Rattle.std.specs.Str.{bytes_eq}
 use Rattle.scr_cells.specs.declared.attributes.Attrs.{Attrs}
+use Rattle.scr_windows.specs.declared.calls.borders.TheConstants.{BOX}
 use Rattle.scr_windows.specs.declared.faults.Win.{Win}
 use Rattle.screen_sessions.specs.declared.calls.Call.{Call}
-use Rattle.screen_sessions.specs.declared.calls.Call.TheVariants.{NewWindow, NewPad, Derive, Sub, SubPad, ResizeWindow, Copy, Overlay, Overwrite, Delete, TouchWindow, Untouch, AddByte, AddText, Erase, Clear, Scroll, ChangeBackground, MoveCursor, ScrollOk, AttrSet, ColorSet, SetPairOf, Noutrefresh, PadNoutrefresh, Doupdate}
+use Rattle.screen_sessions.specs.declared.calls.Call.TheVariants.{NewWindow, NewPad, Derive, Sub, SubPad, ResizeWindow, Copy, Overlay, Overwrite, Delete, TouchWindow, Untouch, AddByte, AddText, BorderOf, Erase, Clear, Scroll, ChangeBackground, MoveCursor, ScrollOk, AttrSet, ColorSet, SetPairOf, Noutrefresh, PadNoutrefresh, Doupdate}
 use Rattle.screen_scripts.specs.declared.commands.Command.{Command}
-use Rattle.screen_scripts.specs.declared.commands.Command.TheVariants.{Size, Add, Show, Make, Key, Idle}
+use Rattle.screen_scripts.specs.declared.commands.Command.TheVariants.{Size, Add, Show, Make, Key, Text, Idle}
 use Rattle.screen_scripts.specs.Fields.{cut, numbers, number_and_text, integer, setting, background, two_colours, hexadecimal_bytes}
 
 -- words, each with what it stands for
@@ -44,6 +45,7 @@ with_one =
     ∷ (codes "touch", λ w. TouchWindow (window w))
     ∷ (codes "untouch", λ w. Untouch (window w))
     ∷ (codes "refresh", λ w. Noutrefresh (window w))
+    ∷ (codes "lines", λ w. BorderOf (window w) BOX)
     ∷ []
 
 unfoldable pub with_two : Words (ℕ → ℕ → Option Command)
@@ -107,6 +109,10 @@ addition = with_number (λ row rest. option_map (λ parts. Add row parts.0 parts
 abbrev pub text_call : Option (List ℕ) → Option Command
 text_call = with_number (λ w text. Some (Make (AddText (window w) text)))
 
+-- a window and a text of characters
+abbrev pub string_command : Option (List ℕ) → Option Command
+string_command = with_number (λ w text. Some (Text w text))
+
 -- a window and a background
 abbrev pub background_call : Option (List ℕ) → Option Command
 background_call = with_number (λ w text. option_map (λ cell. Make (ChangeBackground (window w) cell)) (background text))
@@ -132,6 +138,7 @@ unfoldable pub with_text : Words (Option (List ℕ) → Option Command)
 with_text =
     (codes "add", addition)
     ∷ (codes "put", text_call)
+    ∷ (codes "text", string_command)
     ∷ (codes "bkgd", background_call)
     ∷ (codes "pair", pair_call)
     ∷ (codes "scrollok", setting_call)

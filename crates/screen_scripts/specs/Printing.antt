@@ -4,7 +4,7 @@ use Rattle.std.specs.List.{flat_map, list_all}
 use Rattle.std.specs.Option.{is_none}
 use Rattle.std.specs.Fmt.{decimal}
 use Rattle.std.specs.Io.KnownBytes.{Appends}
-use Rattle.scr_cells.specs.declared.charsets.Charset.TheVariants.{Ascii}
+use Rattle.scr_cells.specs.declared.charsets.Charset.{Charset}
 use Rattle.scr_cells.specs.LookViews.{LookView, negative_grid}
 use Rattle.scr_cells.specs.PictureViews.{PictureView}
 use Rattle.scr_term.specs.declared.operations.operation.Op.{Op}
@@ -93,27 +93,28 @@ key_line key = codes "key " ++ key_name key ++ 10 ∷ []
 -- ---- what is printed
 
 -- What the terminal of the bundled entry can show: every attribute, and colours.
-abbrev pub abilities_for : PictureView → Abilities
-abilities_for picture = full_abilities Ascii picture.rows picture.columns
+abbrev pub abilities_for : Charset → PictureView → Abilities
+abilities_for charset picture = full_abilities charset picture.rows picture.columns
 
 -- The lines of a screen that shows the negative of the painted picture (reverse in place of standout), with the cursor
 -- where the picture asks for it, if it does.
-pub record IsScreenOf (picture : PictureView) (text : List ℕ) : Type 0 where
+pub record IsScreenOf (charset : Charset) (picture : PictureView) (text : List ℕ) : Type 0 where
   pub spot : Spot
   pub wished : IfSome picture.wish (λ wish. spot ≡ At wish.0 wish.1)
-  pub lines : text ≡ screen_lines (negative_grid (painted (abilities_for picture) picture)) spot
+  pub lines : text ≡ screen_lines (negative_grid (painted (abilities_for charset picture) picture)) spot
 
--- The lines printed for an event; a mark prints none.
-abbrev pub IsPrinted : Event → List ℕ → Type 0
-IsPrinted (Refused name) text = text ≡ refusal_line name
-IsPrinted (Marked first n) text = text ≡ []
-IsPrinted (Shown virtual) text = IsScreenOf virtual.picture text
-IsPrinted (Pressed key) text = text ≡ key_line key
+-- The lines printed for an event on a terminal with this charset; a mark prints none.
+abbrev pub IsPrinted : Charset → Event → List ℕ → Type 0
+IsPrinted charset (Refused name) text = text ≡ refusal_line name
+IsPrinted charset (Marked first n) text = text ≡ []
+IsPrinted charset (Shown virtual) text = IsScreenOf charset virtual.picture text
+IsPrinted charset (Pressed key) text = text ≡ key_line key
 
 -- The lines printed for several events, in order.
-abbrev pub ArePrinted : List Event → List ℕ → Type 0
-ArePrinted [] text = text ≡ []
-ArePrinted (event ∷ events) text = (lines more : List ℕ) × (text ≡ lines ++ more) × IsPrinted event lines × ArePrinted events more
+abbrev pub ArePrinted : Charset → List Event → List ℕ → Type 0
+ArePrinted charset [] text = text ≡ []
+ArePrinted charset (event ∷ events) text =
+    (lines more : List ℕ) × (text ≡ lines ++ more) × IsPrinted charset event lines × ArePrinted charset events more
 
 -- The line of an event that is a refusal; nothing for any other.
 abbrev pub refused_event : Event → List ℕ
@@ -170,16 +171,16 @@ pub record AreSent (profile : ProfileView) (events : List Event) (text : List �
 -- The output for these events: printed or, in raw mode, the bytes sent.
 abbrev pub IsOutput : Bool → ProfileView → List Event → List ℕ → Type 0
 IsOutput true profile events text = AreSent profile events text
-IsOutput false profile events text = ArePrinted events text
+IsOutput false profile events text = ArePrinted profile.charset events text
 
--- The profile of the bundled entry on a screen of the script's size.
-abbrev pub profile_of : List ℕ → ProfileView
-profile_of script = ecma48_profile Ascii (size_of script).0 (size_of script).1
+-- The profile of the bundled entry on a screen of the script's size, on a terminal with this charset.
+abbrev pub profile_of : Charset → List ℕ → ProfileView
+profile_of charset script = ecma48_profile charset (size_of script).0 (size_of script).1
 
 -- The writer's text grew by an output for these events.
-pub record Writes (raw : Bool) (script : List ℕ) (events : List Event) (old new : Option (List ℕ)) : Type 0 where
+pub record Writes (charset : Charset) (raw : Bool) (script : List ℕ) (events : List Event) (old new : Option (List ℕ)) : Type 0 where
   pub text : List ℕ
-  pub output : IsOutput raw (profile_of script) events text
+  pub output : IsOutput raw (profile_of charset script) events text
   pub written : Appends old new text
 
 -- The writer's text grew by a beginning of this text.
@@ -190,10 +191,10 @@ pub record GrewByBeginning (old new : Option (List ℕ)) (text : List ℕ) : Typ
   pub written : Appends old new beginning
 
 -- The writer's text grew by a beginning of an output for the first events of the story.
-pub record Begins (raw : Bool) (script : List ℕ) (old new : Option (List ℕ)) : Type 0 where
+pub record Begins (charset : Charset) (raw : Bool) (script : List ℕ) (old new : Option (List ℕ)) : Type 0 where
   pub first : List Event
   pub later : List Event
   pub story : (story_of script).events ≡ first ++ later
   pub text : List ℕ
-  pub output : IsOutput raw (profile_of script) first text
+  pub output : IsOutput raw (profile_of charset script) first text
   pub grew : GrewByBeginning old new text

@@ -1,7 +1,7 @@
 -- What a run keeps true between lines, and what each line does. Definitions that only private functions use.
 use Rattle.std.specs.Prelude.{ℕ, ◌≡◌, ◌≢◌, ◌++◌, not, Bool, true, false, List, [], ◌∷◌, map, option_map, Option, Some, None}
 use Rattle.std.specs.List.{flat_map}
-use Rattle.scr_cells.specs.declared.charsets.Charset.TheVariants.{Ascii}
+use Rattle.scr_cells.specs.declared.charsets.Charset.{Charset}
 use Rattle.scr_cells.specs.PictureViews.{PictureView}
 use Rattle.scr_term.specs.declared.operations.operation.Op.{Op}
 use Rattle.scr_term.specs.Operations.Admission.{IsEcma48}
@@ -49,7 +49,6 @@ pub record IsTerminalFor (profile : ProfileView) (memory : MemoryView) (screen :
   pub rows : screen.rows ≡ profile.rows
   pub columns : screen.columns ≡ profile.columns
   pub charset : screen.charset ≡ profile.charset
-  pub ascii : profile.charset ≡ Ascii
   pub valid : IsScreen screen
   pub state : TerminalState
   pub agrees : Agrees (abilities profile) memory state
@@ -79,7 +78,7 @@ pub record AreSentOn (profile : ProfileView) (Before After : TerminalState → T
 -- The output for these events: printed or, in raw mode, the bytes sent.
 abbrev pub IsOutputOn : Bool → ProfileView → (TerminalState → Type 0) → (TerminalState → Type 0) → MemoryView → MemoryView → List Event → List ℕ → Type 0
 IsOutputOn true profile Before After old new events text = AreSentOn profile Before After old new events text
-IsOutputOn false profile Before After old new events text = ArePrinted events text
+IsOutputOn false profile Before After old new events text = ArePrinted profile.charset events text
 
 -- The same, if the terminal may be in any state that agrees with what is known of it.
 abbrev pub IsOutputBetween : Bool → ProfileView → MemoryView → MemoryView → List Event → List ℕ → Type 0
@@ -190,17 +189,19 @@ pub record IsAhead (fed : Bool) (stage : Playing) (update : Option (List ℕ)) :
   pub terminal : fed ≡ true → IsTerminalFor stage.screen.profile before stage.terminal
   pub sending : IsSending stage.screen.profile before stage.screen.memory virtual stage.screen.virtual.picture update
 
--- A new stage of this size on which nothing was done; nothing is known of the terminal, so every state agrees.
-pub record IsFirst (rows columns : ℕ) (stage : Playing) : Type 0 where
+-- A new stage of this size, for a terminal with this charset, on which nothing was done; nothing is known of the
+-- terminal, so every state agrees.
+pub record IsFirst (charset : Charset) (rows columns : ℕ) (stage : Playing) : Type 0 where
   pub is : stage_of stage.screen ≡ first_stage rows columns
-  pub profile : stage.screen.profile ≡ ecma48_profile Ascii rows columns
+  pub profile : stage.screen.profile ≡ ecma48_profile charset rows columns
   pub memory : stage.screen.memory ≡ unknown stage.screen.profile.rows stage.screen.profile.columns
   pub agrees : (state : TerminalState) → IsState (abilities stage.screen.profile) state → Agrees (abilities stage.screen.profile) stage.screen.memory state
 
--- A command opened this stage; nothing is known of the terminal, so every state agrees.
-pub record Opens (command : Command) (stage : Playing) : Type 0 where
+-- A command opened this stage for a terminal with this charset; nothing is known of the terminal, so every state
+-- agrees.
+pub record Opens (charset : Charset) (command : Command) (stage : Playing) : Type 0 where
   pub is : opened command ≡ Some (record { stage = stage_of stage.screen; events = [] })
-  pub profile : stage.screen.profile ≡ ecma48_profile Ascii (size_in (Some command)).0 (size_in (Some command)).1
+  pub profile : stage.screen.profile ≡ ecma48_profile charset (size_in (Some command)).0 (size_in (Some command)).1
   pub ready : IsReadyStage true stage
   pub memory : stage.screen.memory ≡ unknown stage.screen.profile.rows stage.screen.profile.columns
   pub agrees : (state : TerminalState) → IsState (abilities stage.screen.profile) state → Agrees (abilities stage.screen.profile) stage.screen.memory state
@@ -238,9 +239,9 @@ abbrev pub notes_lines : List Note → List ℕ
 notes_lines all = flat_map note_line all
 
 -- The lines of a picture's screen were appended.
-pub record AddsScreen (picture : PictureView) (before after : List ℕ) : Type 0 where
+pub record AddsScreen (charset : Charset) (picture : PictureView) (before after : List ℕ) : Type 0 where
   pub lines : List ℕ
-  pub is : IsScreenOf picture lines
+  pub is : IsScreenOf charset picture lines
   pub added : after ≡ before ++ lines
 
 -- What a command did on an open stage, and what is written for it.
@@ -253,19 +254,19 @@ pub record CommandWrites (raw : Bool) (old : Playing) (command : Command) (text 
   pub written : IsOutputOfLines raw new.screen.profile (Some old) (Some new) outcome.events text
 
 -- The profile after a line: the one of the size that the line gives, if it opened the stage.
-abbrev pub profile_then : Option Playing → List ℕ → ProfileView
-profile_then None line = ecma48_profile Ascii (size_in (command_of line)).0 (size_in (command_of line)).1
-profile_then (Some stage) line = stage.screen.profile
+abbrev pub profile_then : Charset → Option Playing → List ℕ → ProfileView
+profile_then charset None line = ecma48_profile charset (size_in (command_of line)).0 (size_in (command_of line)).1
+profile_then charset (Some stage) line = stage.screen.profile
 
 -- What a line did, and what is written for it.
-pub record LineWrites (raw : Bool) (old : Option Playing) (line text : List ℕ) (new : Option Playing) : Type 0 where
+pub record LineWrites (charset : Charset) (raw : Bool) (old : Option Playing) (line text : List ℕ) (new : Option Playing) : Type 0 where
   pub outcome : Outcome
   pub is : line_outcome (stages_of old) line ≡ Some outcome
   pub stage : Playing
   pub left : new ≡ Some stage
   pub same : outcome.stage ≡ stage_of stage.screen
   pub ready : IsReadyStage (not raw) stage
-  pub profile : stage.screen.profile ≡ profile_then old line
+  pub profile : stage.screen.profile ≡ profile_then charset old line
   pub written : IsOutputOfLines raw stage.screen.profile old new outcome.events text
 
 -- What a line did, and the refusals that it adds.

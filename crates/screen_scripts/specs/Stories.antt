@@ -2,6 +2,7 @@
 -- line.
 use Rattle.std.specs.Prelude.{ℕ, ◌+◌, ◌-◌, ◌^◌, ◌==◌, ◌&&◌, nat_le, List, [], ◌∷◌, ◌++◌, length, map, Option, Some, None, option_and_then, Result, Ok, Err, min, codes, if◌then◌else◌}
 use Rattle.std.specs.List.{range_with_len}
+use Rattle.std.specs.Str.{chars, is_utf8}
 use Rattle.scr_keys.specs.Keys.{Keys}
 use Rattle.scr_keys.specs.Readers.{ReaderView, byte_read, idle_read}
 use Rattle.scr_keys.specs.Tables.{keys_of}
@@ -18,7 +19,9 @@ use Rattle.screen_sessions.specs.declared.answers.Answer.{Answer}
 use Rattle.screen_sessions.specs.declared.answers.Answer.TheVariants as answers
 use Rattle.screen_sessions.specs.declared.calls.Call.{Call}
 use Rattle.screen_sessions.specs.declared.calls.Call.TheVariants.{AddText, MoveCursor, Noutrefresh}
-use Rattle.screen_sessions.specs.Sessions.{Drawn, first_drawn, is_update, marked_by, screen_call}
+use Rattle.screen_sessions.specs.Calls.{told}
+use Rattle.screen_sessions.specs.Sessions.{Drawn, first_drawn, is_update, marked_by, screen_call, windows_told}
+use Rattle.scr_windows.specs.Calls.Adding.{add_str_call}
 use Rattle.screen_scripts.specs.Commands.{command_of}
 use Rattle.screen_scripts.specs.Lines.{lines_of}
 use Rattle.screen_scripts.specs.declared.commands.Command.{Command}
@@ -119,6 +122,11 @@ added stage row column text = unless_refused (made stage (MoveCursor first_windo
 abbrev pub shown : Stage → Outcome
 shown stage = followed (made stage (Noutrefresh first_window)) updated
 
+-- Writes characters at the cursor of a window.
+unfoldable pub strung : Stage → ℕ → List ℕ → Outcome
+strung stage w text =
+    called stage None (windows_told stage.drawn.virtual (told (λ all. answers.Added all) (add_str_call stage.drawn.desk w (chars text))))
+
 -- ---- keys
 
 -- A refusal by the key reader is an event.
@@ -169,13 +177,14 @@ opened (commands.Size rows columns) =
     else None
 opened command = None
 
--- What a command does on an open stage; a second size is bad.
+-- What a command does on an open stage; a second size is bad, and so is a text that is not UTF-8.
 abbrev pub continued : Stage → Command → Option Outcome
 continued stage (commands.Size rows columns) = None
 continued stage (commands.Add row column text) = Some (added stage row column text)
 continued stage commands.Show = Some (shown stage)
 continued stage (commands.Make call) = Some (made stage call)
 continued stage (commands.Key bytes) = Some (pressed stage bytes)
+continued stage (commands.Text w text) = if is_utf8 text then Some (strung stage w text) else None
 continued stage commands.Idle = Some (idled stage)
 
 -- What a command does, on an open stage or as the first one.

@@ -1,7 +1,7 @@
 //! Commands: reading a line of a script.
 ghost use Rattle.std.specs.Prelude.{◌≡◌, Some, None, IfOk, IsErrOf};
 ghost use Rattle.std.specs.Option.{option_copied};
-ghost use Rattle.screen_scripts.specs.Commands.{command_of, addition, text_call, background_call, pair_call, setting_call, scroll_call, key_bytes};
+ghost use Rattle.screen_scripts.specs.Commands.{command_of, addition, text_call, string_command, background_call, pair_call, setting_call, scroll_call, key_bytes};
 
 use crate::LineFault;
 use crate::fields::{
@@ -27,6 +27,8 @@ pub enum Command {
     Make(Call),
     /// `key HH ..`: bytes from the keyboard.
     Key(Bytes),
+    /// `text W TEXT`: adds a text of characters to a window. One that is not UTF-8 is left for the run to refuse.
+    Text(u32, Bytes),
     /// `idle`: no byte came from the keyboard for a while.
     Idle,
 }
@@ -49,6 +51,8 @@ pub fn read_command(alloc: Global, line: &[u8]) -> Result<Command, LineFault>
         addition(alloc, text)
     } else if word == b"put".as_slice() {
         text_call(alloc, text)
+    } else if word == b"text".as_slice() {
+        string_command(alloc, text)
     } else if word == b"bkgd".as_slice() {
         background_call(text).ok_or(LineFault::Bad)
     } else if word == b"pair".as_slice() {
@@ -81,6 +85,15 @@ fn text_call(alloc: Global, text: Option<&[u8]>) -> Result<Command, LineFault>
 {
     let (window, added) = number_and_text(text).ok_or(LineFault::Bad)?;
     Ok(Command::Make(Call::AddText(Win(window), copied(alloc, added)?)))
+}
+
+// `text W TEXT`.
+fn string_command(alloc: Global, text: Option<&[u8]>) -> Result<Command, LineFault>
+    ensures ok { IfOk result (λ command. string_command (option_copied text.entry) ≡ Some command) }
+    ensures bad { IsErrOf result LineFault.Bad → string_command (option_copied text.entry) ≡ None }
+{
+    let (window, added) = number_and_text(text).ok_or(LineFault::Bad)?;
+    Ok(Command::Text(window, copied(alloc, added)?))
 }
 
 // `bkgd W BYTE N`.

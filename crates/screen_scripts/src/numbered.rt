@@ -7,7 +7,7 @@ ghost use Rattle.screen_scripts.specs.Commands.{attributes, meaning, numbered as
 use crate::Command;
 use crate::fields::numbers;
 use scr_cells::Attrs;
-use scr_windows::Win;
+use scr_windows::{BOX, Win};
 use screen_sessions::Call;
 
 /// The command of a word with the numbers of the text that follows it, if any.
@@ -68,6 +68,8 @@ fn with_one(word: &[u8], window: u32) -> Option<Call>
         Some(Call::Untouch(window))
     } else if word == b"refresh".as_slice() {
         Some(Call::Noutrefresh(window))
+    } else if word == b"lines".as_slice() {
+        Some(Call::BorderOf(window, BOX))
     } else {
         None
     }

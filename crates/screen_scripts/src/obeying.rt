@@ -1,6 +1,7 @@
 //! Executing the commands of a script on its screen.
 ghost use Rattle.std.specs.Prelude.{◌≡◌, None, Some, IfOk, IsErrOf};
 ghost use Rattle.screen_scripts.specs.declared.commands.Command.{Command};
+ghost use Rattle.screen_scripts.specs.declared.commands.Command.TheVariants.{Text};
 ghost use Rattle.screen_scripts.specs.Stories.{added, continued, shown};
 ghost use Rattle.screen_scripts.specs.Showing.{IsReady, Obeys, ObeysSome, stage_of};
 
@@ -21,7 +22,7 @@ const FIRST: Win = Win(0);
 
 /// Executes a command on an open screen.
 ///
-/// Refused with `Bad` for another `size`, or with `NoMemory`.
+/// Refused with `Bad` for another `size` and for a text that is not UTF-8, or with `NoMemory`.
 pub fn obey(alloc: Global, screen: &mut Screen, command: Command) -> Result<Effects, LineFault>
     requires { IsReady screen.old }
     ensures ok { IfOk result (λ effects. ObeysSome screen.old screen.new effects (continued (stage_of screen.old) command)) }
@@ -32,6 +33,7 @@ pub fn obey(alloc: Global, screen: &mut Screen, command: Command) -> Result<Effe
         Command::Show => Ok(show(alloc, screen)?),
         Command::Make(call) => Ok(make(alloc, screen, &call)?),
         Command::Key(bytes) => Ok(press(alloc, screen, &bytes.0)?),
+        Command::Text(window, text) => add_string(alloc, screen, window, text),
         Command::Idle => Ok(idle(alloc, screen)?),
         Command::Size(_, _) => Err(LineFault::Bad),
     }
@@ -53,6 +55,23 @@ fn add(
         return Effects::refused(alloc, moved);
     }
     make(alloc, screen, &Call::AddText(FIRST, text))
+}
+
+// Adds a text of characters to a window.
+fn add_string(
+    alloc: Global,
+    screen: &mut Screen,
+    window: u32,
+    text: Bytes,
+) -> Result<Effects, LineFault>
+    requires { IsReady screen.old }
+    ensures ok { IfOk result (λ effects. ObeysSome screen.old screen.new effects (continued (stage_of screen.old) (Text window text))) }
+    ensures bad { IsErrOf result LineFault.Bad → continued (stage_of screen.old) (Text window text) ≡ None }
+{
+    match String::from_utf8(text.0) {
+        Ok(text) => Ok(make(alloc, screen, &Call::AddStr(Win(window), text))?),
+        Err(_) => Err(LineFault::Bad),
+    }
 }
 
 // Takes the first window onto the virtual screen, and updates the terminal.

@@ -14,7 +14,7 @@ use crate::obeying::obey;
 use crate::showing::{effects_text, print_refusals};
 use crate::stages::{Stage, open_stage};
 use curses::Screen;
-use scr_cells::NoMemory;
+use scr_cells::{Charset, NoMemory};
 use std::alloc::Global;
 use std::io::{ErrorKind, Write};
 use thiserror::Error;
@@ -34,24 +34,38 @@ pub enum DemoFault {
     NoMemory,
 }
 
+/// What a run writes.
+#[derive(Clone, Copy, Debug, PartialEq, Eq)]
+pub struct Output {
+    /// The charset of the terminal.
+    pub charset: Charset,
+    /// Whether the bytes that the terminal is sent are written, and not what it shows.
+    pub is_raw: bool,
+}
+
 /// Runs a script. Writes the lines that a terminal shows at each update, and the refusals; or, if
-/// `raw`, the bytes that are sent to the terminal.
+/// `output.is_raw`, the bytes that are sent to the terminal.
 ///
 /// Refused at the first bad line, after writing the output of all lines before it; if a write or a
 /// flush of `out` fails, or a write accepts nothing; and if memory runs out. The output is flushed
 /// at the end of the script and before a bad line is reported; if that flush fails, its error is
 /// returned instead, also at a bad line. Whatever is returned, what was written is a beginning of
 /// the script's output.
-pub fn run<W: Write>(alloc: Global, script: &[u8], raw: bool, out: &mut W) -> Result<(), DemoFault>
+pub fn run<W: Write>(
+    alloc: Global,
+    script: &[u8],
+    output: Output,
+    out: &mut W,
+) -> Result<(), DemoFault>
     ensures whole { OnOk result ((story_of script.now).bad_line ≡ None) }
-    ensures written { OnOk result (Writes raw script.now (story_of script.now).events (W.contents out.old) (W.contents out.new)) }
+    ensures written { OnOk result (Writes output.charset output.is_raw script.now (story_of script.now).events (W.contents out.old) (W.contents out.new)) }
     ensures bad { (n : ℕ) → IsErrOf result (DemoFault.BadCommand n) → (story_of script.now).bad_line ≡ Some n }
     ensures before_bad { (n : ℕ) → IsErrOf result (DemoFault.BadCommand n)
-        → Writes raw script.now (story_of script.now).events (W.contents out.old) (W.contents out.new) }
-    ensures beginning { Begins raw script.now (W.contents out.old) (W.contents out.new) }
+        → Writes output.charset output.is_raw script.now (story_of script.now).events (W.contents out.old) (W.contents out.new) }
+    ensures beginning { Begins output.charset output.is_raw script.now (W.contents out.old) (W.contents out.new) }
 {
     let mut stage = None;
-    run_lines(alloc, script, raw, &mut stage, out)
+    run_lines(alloc, script, output, &mut stage, out)
 }
 
 /// The lines of a script's refusals, in order, up to the first bad line. Fails only when memory
@@ -68,23 +82,23 @@ pub fn refusals(alloc: Global, script: &[u8]) -> Result<Vec<u8>, NoMemory>
 fn run_lines<W: Write>(
     alloc: Global,
     script: &[u8],
-    raw: bool,
+    output: Output,
     stage: &mut Option<Stage>,
     out: &mut W,
 ) -> Result<(), DemoFault>
     requires { stage.old ≡ None }
     ensures whole { OnOk result ((story_of script.now).bad_line ≡ None) }
-    ensures written { OnOk result (Writes raw script.now (story_of script.now).events (W.contents out.old) (W.contents out.new)) }
+    ensures written { OnOk result (Writes output.charset output.is_raw script.now (story_of script.now).events (W.contents out.old) (W.contents out.new)) }
     ensures bad { (n : ℕ) → IsErrOf result (DemoFault.BadCommand n) → (story_of script.now).bad_line ≡ Some n }
     ensures before_bad { (n : ℕ) → IsErrOf result (DemoFault.BadCommand n)
-        → Writes raw script.now (story_of script.now).events (W.contents out.old) (W.contents out.new) }
-    ensures beginning { Begins raw script.now (W.contents out.old) (W.contents out.new) }
+        → Writes output.charset output.is_raw script.now (story_of script.now).events (W.contents out.old) (W.contents out.new) }
+    ensures beginning { Begins output.charset output.is_raw script.now (W.contents out.old) (W.contents out.new) }
 {
     let mut rest = script;
     let mut number: u32 = 1;
     while !rest.is_empty() {
         let (line, after) = cut_line(rest);
-        write_line(alloc, raw, number, line, stage, out)?;
+        write_line(alloc, output, number, line, stage, out)?;
         rest = after;
         number = number.saturating_add(1);
     }
@@ -94,19 +108,19 @@ fn run_lines<W: Write>(
 // Executes a line, and writes its output; if the line is bad, flushes the output.
 fn write_line<W: Write>(
     alloc: Global,
-    raw: bool,
+    output: Output,
     number: u32,
     line: &[u8],
     stage: &mut Option<Stage>,
     out: &mut W,
 ) -> Result<(), DemoFault>
-    requires { ForSome stage.old (IsReadyStage (not raw)) }
-    ensures ok { OnOk result (LineWritten raw stage.old line.now (W.contents out.old) (W.contents out.new) stage.new) }
+    requires { ForSome stage.old (IsReadyStage (not output.is_raw)) }
+    ensures ok { OnOk result (LineWritten output.charset output.is_raw stage.old line.now (W.contents out.old) (W.contents out.new) stage.new) }
     ensures bad { (n : ℕ) → IsErrOf result (DemoFault.BadCommand n)
         → (number ≡ n) × (line_outcome (stages_of stage.old) line.now ≡ None) × Keeps (W.contents out.old) (W.contents out.new) }
-    ensures beginning { BeginsLine raw stage.old line.now (W.contents out.old) (W.contents out.new) stage.new }
+    ensures beginning { BeginsLine output.charset output.is_raw stage.old line.now (W.contents out.old) (W.contents out.new) stage.new }
 {
-    match line_text(alloc, raw, line, stage) {
+    match line_text(alloc, output, line, stage) {
         Ok(text) => write_text(&text, out),
         Err(LineFault::Bad) => {
             flush(out)?;
@@ -180,21 +194,21 @@ fn flush<W: Write>(out: &mut W) -> Result<(), DemoFault>
 // Executes a line, and returns its output.
 fn line_text(
     alloc: Global,
-    raw: bool,
+    output: Output,
     line: &[u8],
     stage: &mut Option<Stage>,
 ) -> Result<Vec<u8>, LineFault>
-    requires { ForSome stage.old (IsReadyStage (not raw)) }
-    ensures text { IfOk result (λ text. LineWrites raw stage.old line.now text.items stage.new) }
+    requires { ForSome stage.old (IsReadyStage (not output.is_raw)) }
+    ensures text { IfOk result (λ text. LineWrites output.charset output.is_raw stage.old line.now text.items stage.new) }
     ensures bad { IsErrOf result LineFault.Bad → line_outcome (stages_of stage.old) line.now ≡ None }
 {
     let command = read_command(alloc, line)?;
     match stage {
         None => {
-            open(alloc, command, stage)?;
+            open(alloc, output.charset, command, stage)?;
             Ok(Vec::new(alloc))
         }
-        Some(stage) => command_text(alloc, raw, command, stage),
+        Some(stage) => command_text(alloc, output.is_raw, command, stage),
     }
 }
 
@@ -213,7 +227,7 @@ fn command_text(
     Ok(effects_text(alloc, raw, effects, stage)?)
 }
 
-// Executes a line, and adds the lines of its refusals.
+// Executes a line, and adds the lines of its refusals, which are the same on a terminal with any charset.
 fn add_refusal(
     alloc: Global,
     line: &[u8],
@@ -226,17 +240,22 @@ fn add_refusal(
 {
     let command = read_command(alloc, line)?;
     match stage {
-        None => open(alloc, command, stage),
+        None => open(alloc, Charset::Ascii, command, stage),
         Some(stage) => add_command_refusals(alloc, command, &mut stage.screen, text),
     }
 }
 
 // Opens the stage with a script's first command.
-fn open(alloc: Global, command: Command, stage: &mut Option<Stage>) -> Result<(), LineFault>
-    ensures ok { OnOk result (OpensOn command stage.new) }
+fn open(
+    alloc: Global,
+    charset: Charset,
+    command: Command,
+    stage: &mut Option<Stage>,
+) -> Result<(), LineFault>
+    ensures ok { OnOk result (OpensOn charset command stage.new) }
     ensures bad { IsErrOf result LineFault.Bad → opened command ≡ None }
 {
-    *stage = Some(open_stage(alloc, command)?);
+    *stage = Some(open_stage(alloc, charset, command)?);
     Ok(())
 }
 

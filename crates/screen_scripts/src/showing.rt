@@ -80,7 +80,7 @@ pub fn print_refusals(notes: &[Note], text: &mut Vec<u8>) -> Result<(), NoMemory
 // Feeds the terminal the bytes of an update, and adds the lines that it shows then.
 fn show(bytes: &[u8], stage: &mut Stage, text: &mut Vec<u8>) -> Result<(), NoMemory>
     requires { IsAhead true stage.old (Some bytes.now) }
-    ensures text { OnOk result (AddsScreen stage.old.screen.virtual.picture text.old.items text.new.items) }
+    ensures text { OnOk result (AddsScreen stage.old.screen.profile.charset stage.old.screen.virtual.picture text.old.items text.new.items) }
     ensures screen { stage.new.screen ≡ stage.old.screen }
     ensures ready { IsReadyStage true stage.new }
 {
@@ -91,7 +91,7 @@ fn show(bytes: &[u8], stage: &mut Stage, text: &mut Vec<u8>) -> Result<(), NoMem
 // Feeds the terminal the bytes of an update.
 fn feed(bytes: &[u8], stage: &mut Stage)
     requires { IsAhead true stage.old (Some bytes.now) }
-    ensures shows { ShowsNegative (abilities_for stage.old.screen.virtual.picture) stage.new.terminal.state stage.old.screen.virtual.picture }
+    ensures shows { ShowsNegative (abilities_for stage.old.screen.profile.charset stage.old.screen.virtual.picture) stage.new.terminal.state stage.old.screen.virtual.picture }
     ensures screen { stage.new.screen ≡ stage.old.screen }
     ensures ready { IsReadyStage true stage.new }
 {

@@ -6,8 +6,8 @@ ghost use Rattle.screen_scripts.specs.Running.{IsOpenedOn};
 
 use crate::commands::Command;
 use crate::line_faults::LineFault;
-use curses::Screen;
-use scr_cells::{NoMemory, Size};
+use curses::{Opening, Screen};
+use scr_cells::{Charset, NoMemory, Size};
 use scr_memory::memory_runs;
 use scr_term::{blank_laws, bundled_is_ecma48, ecma48_laws};
 use scr_terminal::EcmaScreen;
@@ -24,42 +24,42 @@ pub struct Stage {
     pub terminal: EcmaScreen,
 }
 
-/// The stage that a script's first command opens. Refused with `Bad` if the command is not a size
-/// of 1 to 500 rows and columns, or with `NoMemory`.
-pub fn open_stage(alloc: Global, command: Command) -> Result<Stage, LineFault>
-    ensures ok { IfOk result (λ stage. Opens command stage) }
+/// The stage that a script's first command opens, for a terminal with this charset. Refused with `Bad` if the command
+/// is not a size of 1 to 500 rows and columns, or with `NoMemory`.
+pub fn open_stage(alloc: Global, charset: Charset, command: Command) -> Result<Stage, LineFault>
+    ensures ok { IfOk result (λ stage. Opens charset command stage) }
     ensures bad { IsErrOf result LineFault.Bad → opened command ≡ None }
 {
     let Command::Size(rows, columns) = command else {
         return Err(LineFault::Bad);
     };
     let size = Size::new(rows, columns).ok_or(LineFault::Bad)?;
-    Ok(blank_stage(alloc, size)?)
+    Ok(blank_stage(alloc, charset, size)?)
 }
 
 // A blank stage.
-fn blank_stage(alloc: Global, size: Size) -> Result<Stage, NoMemory>
+fn blank_stage(alloc: Global, charset: Charset, size: Size) -> Result<Stage, NoMemory>
     ensures ready { IfOk result (IsReadyStage true) }
-    ensures first { IfOk result (λ stage. IsFirst size.rows size.columns stage) }
+    ensures first { IfOk result (λ stage. IsFirst charset size.rows size.columns stage) }
 {
     blank_laws();
     bundled_is_ecma48();
     ecma48_laws();
     memory_runs();
-    let screen = open_screen(alloc, size)?;
-    let terminal = EcmaScreen::new(alloc, size)?;
+    let screen = open_screen(alloc, charset, size)?;
+    let terminal = EcmaScreen::new_as(alloc, size, charset)?;
     let _size = terminal.size();
     Ok(Stage { screen, terminal })
 }
 
 // A screen of this size on the terminal of the bundled entry.
-fn open_screen(alloc: Global, size: Size) -> Result<Screen, NoMemory>
-    ensures { IfOk result (IsOpenedOn size) }
+fn open_screen(alloc: Global, charset: Charset, size: Size) -> Result<Screen, NoMemory>
+    ensures { IfOk result (IsOpenedOn charset size) }
 {
     let Ok(entry) = bundled(alloc) else {
         return Err(NoMemory);
     };
-    match Screen::open(alloc, &entry, Some(size)) {
+    match Screen::open_as(alloc, &entry, Some(size), Opening { charset }) {
         Ok(screen) => Ok(screen),
         Err(_) => Err(NoMemory),
     }

@@ -32,7 +32,7 @@ pub fn arguments_of(word: &[u8]) -> Option<&'static [Argument]> {
     };
     match word {
         "show" | "update" | "idle" => Some(&[]),
-        "del" | "erase" | "clear" | "touch" | "untouch" | "refresh" => Some(&[Number]),
+        "del" | "erase" | "clear" | "touch" | "untouch" | "refresh" | "lines" => Some(&[Number]),
         "size" => Some(&[Size, Size]),
         "pad" | "color" | "overlay" | "overwrite" => Some(&[Number, Number]),
         "byte" => Some(&[Number, UpTo(255)]),
@@ -44,7 +44,7 @@ pub fn arguments_of(word: &[u8]) -> Option<&'static [Argument]> {
         "padrefresh" => Some(&[Number; 7]),
         "copy" => Some(&[Number; 8]),
         "add" => Some(&[Number, Number, Text]),
-        "put" => Some(&[Number, Text]),
+        "put" | "text" => Some(&[Number, Text]),
         "bkgd" => Some(&[Number, Character, UpTo(127)]),
         "scrollok" => Some(&[Number, Setting]),
         "scroll" => Some(&[Number, Signed]),

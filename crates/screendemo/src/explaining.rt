@@ -4,7 +4,7 @@ use crate::last_update::{LastUpdate, open, run_to_update};
 use crate::pages::Page;
 use crate::pricing::{joined_price, price_of, scratch_price};
 use crate::scripts::{count_updates, first_size};
-use scr_cells::{NoMemory, Size};
+use scr_cells::{Charset, NoMemory};
 use scr_term::{Op, Ops, Profile};
 use screen_scripts::{DemoFault, cut_line};
 use std::alloc::Global;
@@ -19,14 +19,19 @@ const COUNT_WIDTH: usize = 4;
 /// line.
 ///
 /// Refused at a bad line of the script, or with `NoMemory`.
-pub fn explanation(alloc: Global, script: &[u8]) -> Result<Vec<u8>, DemoFault> {
+pub fn explanation(alloc: Global, charset: Charset, script: &[u8]) -> Result<Vec<u8>, DemoFault> {
     let mut page = Page::new(alloc);
-    explain(alloc, script, &mut page)?;
+    explain(alloc, charset, script, &mut page)?;
     page.done().map_err(|_| DemoFault::NoMemory)
 }
 
 // Explains the last update of a script, if there is one.
-fn explain(alloc: Global, script: &[u8], page: &mut Page) -> Result<(), DemoFault> {
+fn explain(
+    alloc: Global,
+    charset: Charset,
+    script: &[u8],
+    page: &mut Page,
+) -> Result<(), DemoFault> {
     if script.is_empty() {
         return Ok(());
     }
@@ -34,34 +39,24 @@ fn explain(alloc: Global, script: &[u8], page: &mut Page) -> Result<(), DemoFaul
     let size = first_size(alloc, line)?;
     let updates = count_updates(alloc, lines)?;
     if updates > 0 {
-        return explain_update(alloc, size, lines, updates, page).map_err(|_| DemoFault::NoMemory);
+        let opened = open(alloc, charset, size).map_err(|_| DemoFault::NoMemory)?;
+        return explain_update(alloc, opened, lines, updates, page).map_err(|_| DemoFault::NoMemory);
     }
     Ok(())
 }
 
-// Explains the update with this number.
+// Explains the update with this number, on a screen without an update yet.
 fn explain_update(
     alloc: Global,
-    size: Size,
+    opened: LastUpdate,
     lines: &[u8],
     updates: u32,
     page: &mut Page,
 ) -> Result<(), NoMemory> {
-    let opened = open(alloc, size);
-    explain_on(alloc, lines, updates, &mut opened?, page)
-}
-
-// The same, on a screen without an update yet.
-fn explain_on(
-    alloc: Global,
-    lines: &[u8],
-    updates: u32,
-    last: &mut LastUpdate,
-    page: &mut Page,
-) -> Result<(), NoMemory> {
-    run_to_update(alloc, lines, updates, last)?;
+    let mut last = opened;
+    run_to_update(alloc, lines, updates, &mut last)?;
     add_plan(alloc, &last.profile, &last.plan, page);
-    add_sums(alloc, last, page)
+    add_sums(alloc, &mut last, page)
 }
 
 // Adds a line for each operation, with characters in a row on one line.
@@ -76,18 +71,27 @@ fn add_plan(alloc: Global, profile: &Profile, plan: &Ops, page: &mut Page) {
 // Adds the line for an operation, after that for the characters before it. A character waits for
 // others, and adds no line.
 fn add_op(profile: &Profile, op: Op, characters: &mut Vec<u8>, page: &mut Page) {
-    if let Op::Put(byte) = op {
-        let pushed = characters.push(byte);
-        page.check(pushed.is_ok());
-    } else {
-        add_characters(characters, page);
-        add_operation(profile, op, characters, page);
+    match op {
+        Op::Put(byte) => {
+            let pushed = characters.push(byte);
+            page.check(pushed.is_ok());
+        }
+        Op::Write(character) => {
+            let mut spelled = [0; 4];
+            let spelled = character.encode_utf8(&mut spelled);
+            let pushed = characters.extend_from_slice(spelled.as_bytes());
+            page.check(pushed.is_ok());
+        }
+        _ => {
+            add_characters(characters, page);
+            add_operation(profile, op, characters, page);
+        }
     }
 }
 
 // Adds the line for the waiting characters, if there are any; none wait afterwards.
 fn add_characters(characters: &mut Vec<u8>, page: &mut Page) {
-    let count = characters.len();
+    let count = count_of(characters);
     if count > 0 {
         let before = page.len();
         page.add_number(count, 0);
@@ -96,12 +100,20 @@ fn add_characters(characters: &mut Vec<u8>, page: &mut Page) {
         } else {
             b" characters"
         });
-        add_count(before, count, page);
+        add_count(before, characters.len(), page);
         page.add(b"|");
         page.add(characters);
         page.add(b"|\n");
     }
     characters.clear();
+}
+
+// How many characters a text in UTF-8 has.
+fn count_of(text: &[u8]) -> usize {
+    match std::str::from_utf8(text) {
+        Ok(text) => text.chars().count(),
+        Err(_) => text.len(),
+    }
 }
 
 // Adds the line for an operation. `text` is an empty buffer, and is empty again afterwards.

@@ -1,7 +1,7 @@
 //! Running a script up to its last update.
 
-use curses::{Device, Screen};
-use scr_cells::{NoMemory, Size};
+use curses::{Device, Opening, Screen};
+use scr_cells::{Charset, NoMemory, Size};
 use scr_term::{Op, Ops, Profile};
 use scr_terminal::Terminal;
 use scr_windows::{Win, WinFault};
@@ -30,10 +30,14 @@ pub struct LastUpdate {
 }
 
 /// A blank screen, and no update yet. Fails only when memory runs out.
-pub fn open(alloc: Global, size: Size) -> Result<LastUpdate, NoMemory> {
-    let profile = Profile::ecma48(alloc, size).map_err(|_| NoMemory)?;
+pub fn open(alloc: Global, charset: Charset, size: Size) -> Result<LastUpdate, NoMemory> {
+    let Ok(entry) = bundled(alloc) else {
+        return Err(NoMemory);
+    };
+    let profile = Profile::admit_as(alloc, &entry, Some(size), charset).map_err(|_| NoMemory)?;
     let terminal = Terminal::new(alloc, size)?;
-    let screen = open_screen(alloc, size)?;
+    let opening = Opening { charset };
+    let screen = Screen::open_as(alloc, &entry, Some(size), opening).map_err(|_| NoMemory)?;
     Ok(LastUpdate {
         screen,
         profile,
@@ -41,14 +45,6 @@ pub fn open(alloc: Global, size: Size) -> Result<LastUpdate, NoMemory> {
         plan: Ops(Vec::new(alloc)),
         is_known: false,
     })
-}
-
-// A screen of this size on the terminal of the bundled entry.
-fn open_screen(alloc: Global, size: Size) -> Result<Screen, NoMemory> {
-    let Ok(entry) = bundled(alloc) else {
-        return Err(NoMemory);
-    };
-    Screen::open(alloc, &entry, Some(size)).map_err(|_| NoMemory)
 }
 
 /// Executes lines up to the update with this number, counted from 1. Fails only when memory runs
@@ -96,6 +92,10 @@ fn run_command(alloc: Global, command: Command, last: &mut LastUpdate) -> Result
             update(alloc, last)
         }
         Command::Make(call) => make_or_update(alloc, &call, last),
+        Command::Text(window, text) => {
+            add_string(alloc, window, text, &mut last.screen)?;
+            Ok(false)
+        }
         Command::Key(_) | Command::Idle | Command::Size(_, _) => Ok(false),
     }
 }
@@ -120,6 +120,18 @@ fn add(
     if make(alloc, &Call::MoveCursor(FIRST, row, column), screen)? {
         make(alloc, &Call::AddText(FIRST, text), screen)?;
     }
+    Ok(())
+}
+
+// Adds a text of characters to a window; a text that is not UTF-8 was found before.
+fn add_string(
+    alloc: Global,
+    window: u32,
+    text: Bytes,
+    screen: &mut Screen,
+) -> Result<(), NoMemory> {
+    let text = String::from_utf8(text.0).map_err(|_| NoMemory)?;
+    make(alloc, &Call::AddStr(Win(window), text), screen)?;
     Ok(())
 }
 

@@ -1,7 +1,8 @@
 //! Runs a script that draws on a screen, and prints what a terminal shows of it. With `-r` it writes the terminal's
 //! bytes instead. With `-e` it explains the script's last update: each operation that is sent with the bytes of its
 //! text, and how many bytes these are, beside those of the joined repaint and of painting from scratch. With `--picture`
-//! it draws the last screen as an SVG. With `-v` it says why a line is not a command.
+//! it draws the last screen as an SVG. With `-u` the terminal speaks UTF-8. With `-v` it says why a line is not a
+//! command.
 #![tactic(auto)]
 
 mod arguments;
@@ -20,7 +21,8 @@ use failures::DemoFailure;
 use pictures::picture;
 use program_input::{InputFault, read_input};
 use reasons::reason_at;
-pub use screen_scripts::{DemoFault, refusals, run};
+use scr_cells::Charset;
+pub use screen_scripts::{DemoFault, Output, refusals, run};
 use std::io;
 use std::io::Write;
 use std::process::ExitCode;
@@ -38,7 +40,7 @@ fn script(rt: &HostRuntime) -> Result<Vec<u8>, DemoFailure> {
 fn demonstrate(rt: &HostRuntime) -> Result<(), DemoFailure> {
     let asked = asked(rt)?;
     let script = script(rt)?;
-    match perform(rt, asked.task, &script) {
+    match perform(rt, asked.task, asked.charset, &script) {
         Err(DemoFailure::Demo(DemoFault::BadCommand(line))) if asked.is_verbose => {
             Err(at_line(rt, &script, line))
         }
@@ -55,22 +57,28 @@ fn at_line(rt: &HostRuntime, script: &[u8], line: u32) -> DemoFailure {
     }
 }
 
-fn perform(rt: &HostRuntime, task: Task, script: &[u8]) -> Result<(), DemoFailure> {
+fn perform(
+    rt: &HostRuntime,
+    task: Task,
+    charset: Charset,
+    script: &[u8],
+) -> Result<(), DemoFailure> {
+    let output = |is_raw| Output { charset, is_raw };
     match task {
-        Task::Print => draw(rt, false, script),
+        Task::Print => draw(rt, output(false), script),
         Task::Send => {
-            let ended = draw(rt, true, script);
+            let ended = draw(rt, output(true), script);
             let told = tell_refusals(rt, script);
             ended.and(told)
         }
-        Task::Explain => print(rt, explanation(rt.alloc(), script)),
-        Task::Picture => print(rt, picture(rt.alloc(), script)),
+        Task::Explain => print(rt, explanation(rt.alloc(), charset, script)),
+        Task::Picture => print(rt, picture(rt.alloc(), charset, script)),
     }
 }
 
 // Draws what a script says.
-fn draw(rt: &HostRuntime, raw: bool, script: &[u8]) -> Result<(), DemoFailure> {
-    run(rt.alloc(), script, raw, &mut io::writer(rt)).map_err(DemoFailure::Demo)
+fn draw(rt: &HostRuntime, output: Output, script: &[u8]) -> Result<(), DemoFailure> {
+    run(rt.alloc(), script, output, &mut io::writer(rt)).map_err(DemoFailure::Demo)
 }
 
 // Writes the lines of a script's refusals to standard error.

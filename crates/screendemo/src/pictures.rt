@@ -2,10 +2,10 @@
 
 use crate::pages::Page;
 use crate::scripts::first_size;
-use scr_cells::{Attrs, Look, NoMemory, Size};
+use scr_cells::{Attrs, Charset, Look, NoMemory, Size};
 use scr_term::Spot;
 use scr_terminal::EcmaScreen;
-use screen_scripts::{DemoFault, cut_line, run};
+use screen_scripts::{DemoFault, Output, cut_line, run};
 use std::alloc::Global;
 
 // A place in pixels, and how far below its top the characters stand.
@@ -28,23 +28,32 @@ const PAPER: &[u8] = b"#1d1f21";
 /// slanted, a dim one pale, and an invisible one left out.
 ///
 /// Refused at a bad line of the script, or with `NoMemory`.
-pub fn picture(alloc: Global, script: &[u8]) -> Result<Vec<u8>, DemoFault> {
+pub fn picture(alloc: Global, charset: Charset, script: &[u8]) -> Result<Vec<u8>, DemoFault> {
     if script.is_empty() {
         return Ok(Vec::new(alloc));
     }
     let (line, _) = cut_line(script);
     let size = first_size(alloc, line)?;
     let mut bytes = Vec::new(alloc);
-    run(alloc, script, true, &mut bytes)?;
-    match shown(alloc, size, &bytes) {
+    let output = Output {
+        charset,
+        is_raw: true,
+    };
+    run(alloc, script, output, &mut bytes)?;
+    match shown(alloc, charset, size, &bytes) {
         Ok(terminal) => drawn(alloc, &terminal).map_err(|_| DemoFault::NoMemory),
         Err(_) => Err(DemoFault::NoMemory),
     }
 }
 
 // A terminal that was sent bytes. All that updates send is defined.
-fn shown(alloc: Global, size: Size, bytes: &[u8]) -> Result<EcmaScreen, NoMemory> {
-    let mut terminal = EcmaScreen::new(alloc, size)?;
+fn shown(
+    alloc: Global,
+    charset: Charset,
+    size: Size,
+    bytes: &[u8],
+) -> Result<EcmaScreen, NoMemory> {
+    let mut terminal = EcmaScreen::new_as(alloc, size, charset)?;
     let _ = terminal.feed(bytes);
     Ok(terminal)
 }

@@ -39,6 +39,9 @@ pub enum Reason {
     /// A byte of a key.
     #[error("not two hexadecimal digits: {0}")]
     NotHexadecimal(String),
+    /// A text of characters that is not UTF-8.
+    #[error("not UTF-8")]
+    NotUtf8,
     /// The line would be a command without its last byte.
     #[error("a carriage return at the end")]
     CarriageReturn,
@@ -93,6 +96,10 @@ fn misplaced(command: &Command, is_first: bool) -> Option<Reason> {
         },
         Command::Size(_, _) => Some(Reason::SecondSize),
         _ if is_first => Some(Reason::NotSize),
+        Command::Text(_, text) => match std::str::from_utf8(&text.0) {
+            Ok(_) => None,
+            Err(_) => Some(Reason::NotUtf8),
+        },
         _ => None,
     }
 }

@@ -41,11 +41,15 @@ pub fn count_updates(alloc: Global, lines: &[u8]) -> Result<u32, DemoFault> {
     Ok(count)
 }
 
-// Whether a line after the first updates the terminal; `Bad` if it is not a command, or is another
-// `size`.
+// Whether a line after the first updates the terminal; `Bad` if it is not a command, is another
+// `size`, or has a text that is not UTF-8.
 fn is_update(alloc: Global, line: &[u8]) -> Result<bool, LineFault> {
     match read_command(alloc, line)? {
         Command::Size(_, _) => Err(LineFault::Bad),
+        Command::Text(_, text) => match String::from_utf8(text.0) {
+            Ok(_) => Ok(false),
+            Err(_) => Err(LineFault::Bad),
+        },
         Command::Show | Command::Make(Call::Doupdate) => Ok(true),
         _ => Ok(false),
     }

@@ -4,6 +4,7 @@ use crate::failures::DemoFailure;
 use clap::error::ErrorKind;
 use clap::{Arg, ArgAction, ArgGroup, Command};
 use program_input::VERSION;
+use scr_cells::Charset;
 use std::alloc::{AllocError, Global};
 use std::env::Env;
 use std::io;
@@ -26,6 +27,8 @@ pub enum Task {
 pub struct Request {
     /// What is done with the script.
     pub task: Task,
+    /// The terminal's charset.
+    pub charset: Charset,
     /// Whether it is said why a line is not a command.
     pub is_verbose: bool,
 }
@@ -50,7 +53,10 @@ fn command<'a>(alloc: Global, version: &'a str) -> Result<Command<'a>, AllocErro
         .about("Draws what a script on the standard input says, and prints the screen")
         .disable_version_flag(true);
     let command = tasks(alloc, command)?;
-    command.arg(verbose(alloc))?.arg(version_wanted(alloc))
+    command
+        .arg(utf8(alloc))?
+        .arg(verbose(alloc))?
+        .arg(version_wanted(alloc))
 }
 
 // At most one of the three is given.
@@ -70,6 +76,15 @@ fn tasks<'a>(alloc: Global, command: Command<'a>) -> Result<Command<'a>, AllocEr
     let tasks = ArgGroup::new(alloc, "tasks");
     let tasks = tasks.arg("raw")?.arg("explain")?.arg("picture")?;
     command.arg(raw)?.arg(explain)?.arg(picture)?.group(tasks)
+}
+
+fn utf8<'a>(alloc: Global) -> Arg<'a> {
+    Arg::new(alloc, "utf8")
+        .short('u')
+        .action(ArgAction::SetTrue)
+        .help(
+            "The terminal speaks UTF-8: characters beyond ASCII are shown, and not their stand-ins",
+        )
 }
 
 fn verbose<'a>(alloc: Global) -> Arg<'a> {
@@ -98,8 +113,17 @@ fn asked_in(alloc: Global, version: &str, words: &[String]) -> Result<Request, c
     } else {
         Task::Print
     };
+    let charset = if matches.get_flag("utf8") {
+        Charset::Utf8
+    } else {
+        Charset::Ascii
+    };
     let is_verbose = matches.get_flag("verbose");
-    Ok(Request { task, is_verbose })
+    Ok(Request {
+        task,
+        charset,
+        is_verbose,
+    })
 }
 
 fn words(rt: &(impl Env + AllocGlobal)) -> Result<Vec<String>, DemoFailure> {
