@@ -10,6 +10,7 @@
 
 #include <errno.h>
 #include <fcntl.h>
+#include <langinfo.h>
 #include <limits.h>
 #include <poll.h>
 #include <signal.h>
@@ -29,6 +30,7 @@
 #include "curses/output.c"
 #include "curses/line.c"
 #include "curses/signals.c"
+#include "curses/encoding.c"
 #include "curses/characters.c"
 #include "curses/marks.c"
 #include "curses/windows.c"
@@ -37,10 +39,13 @@
 #include "curses/colours.c"
 #include "curses/refreshing.c"
 #include "curses/adding.c"
+#include "curses/lines.c"
 #include "curses/inserting.c"
 #include "curses/erasing.c"
 #include "curses/reading.c"
 #include "curses/cells.c"
+#include "curses/wide.c"
+#include "curses/wide_texts.c"
 #include "curses/ripped.c"
 #include "curses/labels.c"
 #include "curses/mouse.c"
@@ -59,4 +64,5 @@
 #include "curses/keyboard.c"
 #include "curses/keys.c"
 #include "curses/texts.c"
+#include "curses/wide_keys.c"
 #include "curses/forms.c"

@@ -1,14 +1,14 @@
 /* The names of X/Open Curses Issue 7 over huttavel.h, so that programs that exist compile unchanged.
  *
  * Each call does what the standard says unless docs/C.md says otherwise, and gives ERR, NULL or (chtype)ERR where it is
- * refused. Windows hold ASCII cells of one column; a byte from 128 on is refused. Calls come from one thread. Only a
- * call that waits for a key may be interrupted by a signal handler that makes calls of its own.
+ * refused. Windows hold characters of one column. A screen shows and reads them in UTF-8 if the locale has it when the
+ * screen is opened: a program calls setlocale(LC_ALL, "") before. Otherwise what stands for them in ASCII is shown, and
+ * a byte from 128 on is refused. Calls come from one thread. Only a call that waits for a key may be interrupted by a
+ * signal handler that makes calls of its own.
  *
- * LEFT OUT, so that a program which wants one of these fails when it is compiled, with the name:
- * - all that is about wide characters: cchar_t, add_wch(), addwstr(), bkgrnd(), box_set(), border_set(), get_wch(),
- *   getcchar(), hline_set(), in_wch(), ins_wch(), setcchar(), slk_wset(), unget_wch(), WACS_* and so on;
- * - what only ncurses has, but for the mouse, keys, sizes and default colours: init_extended_pair(), is_keypad(),
- *   is_scrollok() and their kin, wgetparent(), use_window(), newscr, TABSIZE, boolnames and so on.
+ * LEFT OUT, so that a program which wants one of these fails when it is compiled, with the name: what only ncurses has,
+ * but for the mouse, keys, sizes and default colours. So there is no init_extended_pair(), is_keypad(), is_scrollok()
+ * and their kin, wgetparent(), use_window(), newscr, TABSIZE, boolnames, WACS_D_HLINE and so on.
  */
 #ifndef HUTTAVEL_CURSES_H
 #define HUTTAVEL_CURSES_H
@@ -17,6 +17,7 @@
 #include <stdbool.h>
 #include <stddef.h>
 #include <stdio.h>
+#include <wchar.h>
 
 #ifdef __cplusplus
 extern "C" {
@@ -438,6 +439,7 @@ int wgetnstr(WINDOW *window, char *text, int most);
 int mvgetnstr(int row, int column, char *text, int most);
 int mvwgetnstr(WINDOW *window, int row, int column, char *text, int most);
 
+#include "curses_wide.h"
 #include "curses_macros.h"
 
 #ifdef __cplusplus

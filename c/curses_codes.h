@@ -2,7 +2,8 @@
 #ifndef HUTTAVEL_CURSES_CODES_H
 #define HUTTAVEL_CURSES_CODES_H
 
-/* A chtype is one unsigned int: the byte in bits 0 to 7, the attributes in 8 to 15, the colour pair in 16 to 21. */
+/* A chtype is one unsigned int: the byte in bits 0 to 7, the attributes in 8 to 15, the colour pair in 16 to 23. With
+   A_ALTCHARSET the byte is a letter of the VT100's graphic set or, from 160 on, the code of a character. */
 #define A_NORMAL 0x000000u
 #define A_STANDOUT 0x000100u
 #define A_UNDERLINE 0x000200u
@@ -59,8 +60,8 @@
 /* The bits of pairs that there are only after use_default_colors(). */
 #define HUTTAVEL_LATE_PAIRS (A_COLOR & ~COLOR_PAIR(63))
 
-/* Line drawing, by the letters of the VT100's graphic set. acs_map has the ASCII stand-ins of X/Open Curses Issue 7,
-   'Line Graphics'. */
+/* Line drawing, by the letters of the VT100's graphic set. On a screen in UTF-8, acs_map has these letters with
+   A_ALTCHARSET; on one in ASCII, the stand-ins of X/Open Curses Issue 7, 'Line Graphics'. */
 #define HUTTAVEL_ACS(letter) (acs_map[(unsigned char)(letter)])
 #define ACS_ULCORNER HUTTAVEL_ACS('l')
 #define ACS_LLCORNER HUTTAVEL_ACS('m')

@@ -13,6 +13,7 @@ static const saying sayings[] = {
     {HUTTAVEL_IS_OPEN, "the handle is open already"},
     {HUTTAVEL_BAD_LENGTH, "bad length"},
     {HUTTAVEL_NO_MEMORY, "out of memory"},
+    {HUTTAVEL_BAD_CHARSET, "no such charset"},
     {HUTTAVEL_NO_WINDOW, "no such window"},
     {HUTTAVEL_IS_PAD, "the window is a pad"},
     {HUTTAVEL_NOT_PAD, "the window is not a pad"},

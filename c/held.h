@@ -22,8 +22,9 @@ typedef struct length_reply {
     size_t count;
 } length_reply;
 
-reply huttavel_held_open(huttavel *handle, const uint8_t *entry, size_t length, uint32_t rows, uint32_t columns);
-reply huttavel_held_open_bundled(huttavel *handle, uint32_t rows, uint32_t columns);
+reply huttavel_held_open(huttavel *handle, const uint8_t *entry, size_t length, uint32_t charset, uint32_t rows,
+                         uint32_t columns);
+reply huttavel_held_open_bundled(huttavel *handle, uint32_t charset, uint32_t rows, uint32_t columns);
 uint32_t huttavel_held_close(huttavel *handle);
 uint32_t huttavel_held_start(huttavel *handle);
 uint32_t huttavel_held_finish(huttavel *handle);
@@ -109,6 +110,20 @@ uint32_t huttavel_held_border(huttavel *handle, uint32_t window, uint8_t left, u
                               uint8_t top_left, uint8_t top_right, uint8_t bottom_left, uint8_t bottom_right);
 uint32_t huttavel_held_background(huttavel *handle, uint32_t window, uint8_t byte, uint8_t attrs, uint32_t pair,
                                   bool changes);
+
+/* The codes of a border: eight fields in the proved library. */
+typedef struct border_characters {
+    uint32_t codes[8];
+} border_characters;
+
+reply huttavel_held_add_utf8(huttavel *handle, uint32_t window, const uint8_t *text, size_t length);
+reply huttavel_held_add_character(huttavel *handle, uint32_t window, uint32_t code, uint8_t attrs);
+uint32_t huttavel_held_insert_character(huttavel *handle, uint32_t window, uint32_t code, uint8_t attrs);
+uint32_t huttavel_held_line_of(huttavel *handle, uint32_t window, uint32_t code, uint32_t n, bool down);
+uint32_t huttavel_held_border_of(huttavel *handle, uint32_t window, const border_characters *border);
+uint32_t huttavel_held_background_with(huttavel *handle, uint32_t window, uint32_t code, uint8_t attrs, uint32_t pair,
+                                       bool changes);
+reply huttavel_held_columns(uint32_t code);
 reply huttavel_held_make(huttavel *handle, uint32_t window, uint32_t rows, uint32_t columns, uint32_t row,
                          uint32_t column, uint32_t call);
 uint32_t huttavel_held_resize_window(huttavel *handle, uint32_t window, uint32_t rows, uint32_t columns);
@@ -167,6 +182,14 @@ static inline uint32_t give(reply answer, uint32_t *first, uint32_t *second)
         *first = answer.first;
     if (answer.fault == HUTTAVEL_OK && second != NULL)
         *second = answer.second;
+    return answer.fault;
+}
+
+/* The same of a truth value. */
+static inline uint32_t give_bool(reply answer, bool *on)
+{
+    if (answer.fault == HUTTAVEL_OK && on != NULL)
+        *on = answer.first != 0;
     return answer.fault;
 }
 

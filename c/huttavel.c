@@ -6,8 +6,21 @@
 /* Stands for no bytes. */
 static const uint8_t no_bytes[1] = {0};
 
+/* What a screen is opened with where nothing is asked for. */
+static const huttavel_opening usual = {0, 0, HUTTAVEL_ASCII};
+
 uint32_t huttavel_open(huttavel *handle, const uint8_t *entry, size_t length, uint32_t rows, uint32_t columns,
                        huttavel_capability *which)
+{
+    huttavel_opening opening = usual;
+
+    opening.rows = rows;
+    opening.columns = columns;
+    return huttavel_open_as(handle, entry, length, &opening, which);
+}
+
+uint32_t huttavel_open_as(huttavel *handle, const uint8_t *entry, size_t length, const huttavel_opening *opening,
+                          huttavel_capability *which)
 {
     reply answer;
 
@@ -15,7 +28,10 @@ uint32_t huttavel_open(huttavel *handle, const uint8_t *entry, size_t length, ui
         return HUTTAVEL_CLOSED;
     if (!is_piece(entry, length))
         return HUTTAVEL_BAD_LENGTH;
-    answer = huttavel_held_open(handle, length == 0 ? no_bytes : entry, length, rows, columns);
+    if (opening == NULL)
+        opening = &usual;
+    answer = huttavel_held_open(handle, length == 0 ? no_bytes : entry, length, opening->charset, opening->rows,
+                                opening->columns);
     if (answer.fault >= HUTTAVEL_UNSUITABLE && which != NULL) {
         which->kind = answer.first;
         which->position = answer.second;
@@ -25,7 +41,16 @@ uint32_t huttavel_open(huttavel *handle, const uint8_t *entry, size_t length, ui
 
 uint32_t huttavel_open_bundled(huttavel *handle, uint32_t rows, uint32_t columns)
 {
-    return handle == NULL ? HUTTAVEL_CLOSED : huttavel_held_open_bundled(handle, rows, columns).fault;
+    return handle == NULL ? HUTTAVEL_CLOSED : huttavel_held_open_bundled(handle, HUTTAVEL_ASCII, rows, columns).fault;
+}
+
+uint32_t huttavel_open_bundled_as(huttavel *handle, const huttavel_opening *opening)
+{
+    if (handle == NULL)
+        return HUTTAVEL_CLOSED;
+    if (opening == NULL)
+        opening = &usual;
+    return huttavel_held_open_bundled(handle, opening->charset, opening->rows, opening->columns).fault;
 }
 
 uint32_t huttavel_close(huttavel *handle)

@@ -20,7 +20,7 @@ NM ?= nm
 SHIM_FLAGS := -std=c99 -Wall -Wextra -pedantic -I $(SHIM) -I $(HUTTAVEL_INCLUDE)
 SHIM_HEADERS := $(addprefix $(SHIM),curses.h ncurses.h panel.h term.h termcap.h unctrl.h)
 # Parts of curses.h and of term.h.
-SHIM_HEADER_PARTS := $(addprefix $(SHIM),curses_codes.h curses_macros.h term_names.h)
+SHIM_HEADER_PARTS := $(addprefix $(SHIM),curses_codes.h curses_macros.h curses_wide.h term_names.h)
 SHIM_PARTS := $(SHIM_HEADER_PARTS) $(SHIM)curses/screens.h $(wildcard $(SHIM)curses/*.c)
 SHIM_OUT := $(SHIM)out
 SHIM_OBJECTS := $(addprefix $(SHIM_OUT)/,curses.o panel.o)
@@ -36,6 +36,8 @@ OTHER_NAMES := ncurses ncursesw curses tinfo panel panelw termcap
 OTHER_PACKAGES := ncurses ncursesw panel panelw tinfo
 OTHER_VERSION := 6.4
 TO_OTHERS = $(TO_LIBRARIES)/huttavel
+# Where a program may look for the headers of a curses with wide characters: they are the same here.
+OTHER_FOLDER := ncursesw
 # Prints a file for pkg-config: a package, its folder of libraries, its version, its libraries.
 PACKAGE = printf '%s\n' 'prefix=$(PREFIX)' 'libdir=$${prefix}/$(2)' 'includedir=$${prefix}/include/huttavel' '' \
     "Name: $(1)" 'Description: curses.h over huttavel' 'Version: $(3)' 'Libs: -L$${libdir}'" $(4)" \
@@ -69,8 +71,11 @@ check-headers:
 	done
 
 install-curses: curses
-	install -d $(TO_HEADERS) $(TO_LIBRARIES)/pkgconfig $(TO_OTHERS)/pkgconfig $(TO_MANUALS)
+	install -d $(TO_HEADERS)/$(OTHER_FOLDER) $(TO_LIBRARIES)/pkgconfig $(TO_OTHERS)/pkgconfig $(TO_MANUALS)
 	install -m 644 $(SHIM_HEADERS) $(SHIM_HEADER_PARTS) $(TO_HEADERS)
+	for name in $(notdir $(SHIM_HEADERS)); do \
+	    echo "#include \"../$$name\"" > $(TO_HEADERS)/$(OTHER_FOLDER)/$$name || exit; \
+	done
 	install -m 644 $(SHIM_MANUALS) $(TO_MANUALS)
 	install -m 644 $(SHIM_OUT)/libhuttavel_curses.a $(TO_LIBRARIES)
 	$(call PACKAGE,huttavel_curses,lib,$(HUTTAVEL_VERSION),-lhuttavel_curses -lhuttavel) \
@@ -84,7 +89,8 @@ install-curses: curses
 
 uninstall-curses:
 	rm -f $(addprefix $(TO_HEADERS)/,$(notdir $(SHIM_HEADERS) $(SHIM_HEADER_PARTS)))
+	rm -f $(addprefix $(TO_HEADERS)/$(OTHER_FOLDER)/,$(notdir $(SHIM_HEADERS)))
 	rm -f $(TO_LIBRARIES)/libhuttavel_curses.a $(TO_LIBRARIES)/pkgconfig/huttavel_curses.pc
 	rm -f $(OTHER_NAMES:%=$(TO_OTHERS)/lib%.a) $(OTHER_PACKAGES:%=$(TO_OTHERS)/pkgconfig/%.pc)
 	rm -f $(addprefix $(TO_MANUALS)/,$(notdir $(SHIM_MANUALS)))
-	-rmdir $(TO_HEADERS) $(TO_OTHERS)/pkgconfig $(TO_OTHERS) $(TO_MANUALS)
+	-rmdir $(TO_HEADERS)/$(OTHER_FOLDER) $(TO_HEADERS) $(TO_OTHERS)/pkgconfig $(TO_OTHERS) $(TO_MANUALS)

@@ -7,14 +7,6 @@
 static const uint8_t no_bytes[1] = {0};
 static huttavel_cell no_cells[1];
 
-/* A truth value, unless the call was refused. */
-static uint32_t give_bool(reply answer, bool *on)
-{
-    if (answer.fault == HUTTAVEL_OK && on != NULL)
-        *on = answer.first != 0;
-    return answer.fault;
-}
-
 /* A set of attributes, and a number. */
 static uint32_t give_byte(reply answer, uint8_t *attrs, uint32_t *pair)
 {
@@ -27,9 +19,10 @@ static uint32_t give_byte(reply answer, uint8_t *attrs, uint32_t *pair)
 static uint32_t give_cell(reply answer, huttavel_cell *cell)
 {
     if (answer.fault == HUTTAVEL_OK && cell != NULL) {
-        cell->byte = (uint8_t)answer.first;
-        cell->attrs = (uint8_t)answer.second;
-        cell->pair = (uint8_t)answer.third;
+        cell->character = answer.first;
+        cell->byte = (uint8_t)answer.second;
+        cell->attrs = (uint8_t)(answer.third & 255);
+        cell->pair = (uint8_t)(answer.third >> 8);
     }
     return answer.fault;
 }

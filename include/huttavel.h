@@ -30,8 +30,13 @@
  * What is NULL otherwise, closed, or a number of no window is refused.
  *
  * PLACES. Rows and columns are counted from 0, from the window's first place unless the call says otherwise. Both
- * corners of a rectangle are inside it. A window is a number: 0 is the first one, over the whole screen. Bytes are
- * ASCII; a cell holds a byte 32 to 126, a set of attributes, and the number of a colour pair, 0 to 63.
+ * corners of a rectangle are inside it. A window is a number: 0 is the first one, over the whole screen.
+ *
+ * CHARACTERS. A cell holds a character, a set of attributes, and the number of a colour pair, 0 to 63. A character is
+ * given by its code: 32 to 126, or a code of Unicode from 160 to 65,535 that is assigned and takes one column, and so
+ * no control or combining character. A screen that was opened with HUTTAVEL_UTF8 shows it, on a terminal that shows each
+ * of these in one column; any other screen shows a byte in its place, a letter without its accent, `-`, `|` and `+` for
+ * lines, `?` and so on. Where a call has a byte or bytes in its name, they are ASCII.
  */
 #ifndef HUTTAVEL_H
 #define HUTTAVEL_H
@@ -58,12 +63,26 @@ typedef struct huttavel {
 /* A handle that holds no screen. */
 #define HUTTAVEL_CLOSED_HANDLE {NULL, false}
 
-/* What a window holds in one place. */
+/* What a window holds in one place: its character, and the byte that stands for it where there is ASCII alone. */
 typedef struct huttavel_cell {
     uint8_t byte;
     uint8_t attrs;
     uint8_t pair;
+    uint32_t character;
 } huttavel_cell;
+
+/* The characters that a terminal is sent. */
+enum huttavel_charset {
+    HUTTAVEL_ASCII = 0, /* a byte each */
+    HUTTAVEL_UTF8 = 1   /* all, in UTF-8 */
+};
+
+/* How a screen is opened. All of it may be 0: with 0 rows and 0 columns the screen has the entry's own size. */
+typedef struct huttavel_opening {
+    uint32_t rows;
+    uint32_t columns;
+    uint32_t charset; /* one of enum huttavel_charset */
+} huttavel_opening;
 
 /* Video attributes: a set is the sum of some of these. */
 enum huttavel_attr {
@@ -87,6 +106,7 @@ enum huttavel_fault {
     HUTTAVEL_IS_OPEN = 2,    /* the handle holds a screen already */
     HUTTAVEL_BAD_LENGTH = 3, /* bytes are NULL and their number is not 0, or there cannot be so many bytes */
     HUTTAVEL_NO_MEMORY = 4,  /* memory ran out */
+    HUTTAVEL_BAD_CHARSET = 5, /* a number that no charset has */
     /* Of windows. */
     HUTTAVEL_NO_WINDOW = 10,     /* there is no window of this number */
     HUTTAVEL_IS_PAD = 11,        /* the window is a pad */
@@ -121,7 +141,7 @@ enum huttavel_fault {
     HUTTAVEL_UNENDED_STRING = 46,  /* a string has no end in the string table */
     /* Of an entry that no screen can be opened on. UNSUITABLE, MISSING, and the last three are about a capability. */
     HUTTAVEL_UNSUITABLE = 50,   /* the terminal prints, overstrikes, or cannot show cells independently */
-    HUTTAVEL_AUTO_MARGIN = 51,  /* `am` without `xenl`: a character in the last place would scroll the screen */
+    HUTTAVEL_AUTO_MARGIN = 51,  /* of no call here: `am` without `xenl` takes the last column from the screen */
     HUTTAVEL_MISSING = 52,      /* `cup` or `clear` is absent, or only padding */
     HUTTAVEL_NO_SIZE = 53,      /* no size is given, and `lines` or `cols` is absent */
     HUTTAVEL_BAD_SIZE = 54,     /* the rows or the columns are not 1 to 500 */
@@ -162,6 +182,9 @@ const char *huttavel_fault_text(uint32_t fault);
 /* Opens a screen on the terminal of a compiled entry, term(5), with 16-bit or 32-bit numbers. With 0 rows and 0 columns
  * it has the entry's own size, `lines` and `cols`. Nothing is sent. It has one blank window over the whole screen, and
  * nothing is known of what the terminal shows.
+ * Colours come before the attributes that the entry excludes beside them (`ncv`). Where a character in the last column
+ * would scroll (`am` without `xenl`), the screen has one column less than is given here; none is left of one column,
+ * which is HUTTAVEL_NO_SIZE.
  * Refused: HUTTAVEL_CLOSED only if the handle is NULL; HUTTAVEL_BAD_LENGTH; HUTTAVEL_IS_OPEN; HUTTAVEL_BAD_SIZE if
  * only one of both is 0, or one is above 500; the errors of a compiled entry; those of an entry, and `which`, if it is
  * not NULL, gets the capability that they are about; HUTTAVEL_NO_MEMORY. X/Open Curses Issue 7, newterm(). */
@@ -170,6 +193,14 @@ uint32_t huttavel_open(huttavel *handle, const uint8_t *entry, size_t length, ui
 
 /* The same on the bundled entry, a terminal of ECMA-48 with eight colours, whose own size is 24 rows of 80 columns. */
 uint32_t huttavel_open_bundled(huttavel *handle, uint32_t rows, uint32_t columns);
+
+/* Opens a screen as is asked for; as huttavel_open with 0 rows and 0 columns, if `opening` is NULL. Refused, after
+ * HUTTAVEL_IS_OPEN: HUTTAVEL_BAD_CHARSET; the rest as huttavel_open. */
+uint32_t huttavel_open_as(huttavel *handle, const uint8_t *entry, size_t length, const huttavel_opening *opening,
+                          huttavel_capability *which);
+
+/* The same on the bundled entry. */
+uint32_t huttavel_open_bundled_as(huttavel *handle, const huttavel_opening *opening);
 
 /* Closes a screen and frees its memory. Bytes that wait are lost. X/Open Curses Issue 7, delscreen(). */
 uint32_t huttavel_close(huttavel *handle);
@@ -223,7 +254,8 @@ uint32_t huttavel_key_bytes(huttavel *handle, const uint8_t *bytes, size_t lengt
  * Refused: HUTTAVEL_QUEUE_FULL. X/Open Curses Issue 7, notimeout(). */
 uint32_t huttavel_key_idle(huttavel *handle);
 
-/* Takes the first key of the queue. Refused: HUTTAVEL_NO_KEY, which is not the end of the input. */
+/* Takes the first key of the queue. The bytes of a character beyond ASCII come one after the other, each as a key.
+ * Refused: HUTTAVEL_NO_KEY, which is not the end of the input. */
 uint32_t huttavel_next_key(huttavel *handle, huttavel_key *key);
 
 /* The calls on windows, and those on entries. */

@@ -74,6 +74,36 @@ uint32_t huttavel_line_down(huttavel *handle, uint32_t window, uint8_t byte, uin
  * left, bottom right. Refused: BAD_LENGTH if `bytes` is NULL, NOT_ASCII. border(). */
 uint32_t huttavel_border(huttavel *handle, uint32_t window, const uint8_t bytes[8]);
 
+/* ---- Writing characters beyond ASCII too, by their codes */
+
+/* Adds a text in UTF-8, without attributes of its own, and its control characters as huttavel_add_byte does; those from
+ * 128 to 159 are shown as `~` and a character. No text is refused, and what comes after any character is in its column:
+ * one that takes no column is left out, one of two columns is U+FFFD twice, and each other one that no cell holds is
+ * U+FFFD. So is each byte that belongs to no well-formed sequence (RFC 3629). Refused: NO_MEMORY, and only where there
+ * are such bytes. addnwstr(). */
+uint32_t huttavel_add_utf8(huttavel *handle, uint32_t window, const uint8_t *text, size_t length, bool *stayed);
+
+/* How many columns a code of Unicode takes where huttavel_add_utf8 adds it, and `shown` gets what is written in each:
+ * the code itself, of 1 column, if a cell holds it, or else U+FFFD. 0 columns for a control character, and for a number
+ * that is no code. It needs no handle. wcwidth() elsewhere. */
+uint32_t huttavel_columns(uint32_t character, uint32_t *shown);
+
+/* Adds a character at the cursor, with attributes besides those of the window and of its background. Refused:
+ * NOT_ONE_COLUMN if no cell holds it. add_wch(). */
+uint32_t huttavel_add_character(huttavel *handle, uint32_t window, uint32_t character, uint8_t attrs, bool *stayed);
+
+/* Inserts a character at the cursor, which stays. Refused: NOT_ONE_COLUMN. ins_wch(). */
+uint32_t huttavel_insert_character(huttavel *handle, uint32_t window, uint32_t character, uint8_t attrs);
+
+/* Writes a character in `n` places from the cursor to the right, or down. Refused: NOT_ONE_COLUMN. hline_set(),
+ * vline_set(). */
+uint32_t huttavel_line_across_of(huttavel *handle, uint32_t window, uint32_t character, uint32_t n);
+uint32_t huttavel_line_down_of(huttavel *handle, uint32_t window, uint32_t character, uint32_t n);
+
+/* Writes eight characters along the edges, in the order of huttavel_border. Refused: BAD_LENGTH if `characters` is
+ * NULL, NOT_ONE_COLUMN. border_set(). */
+uint32_t huttavel_border_of(huttavel *handle, uint32_t window, const uint32_t characters[8]);
+
 /* ---- Erasing, scrolling and backgrounds */
 
 /* Erases to the end of the line; to the end of the window; all of it; all of it, and repaints. clrtoeol(), clrtobot(),
@@ -96,6 +126,11 @@ uint32_t huttavel_scroll(huttavel *handle, uint32_t window, int32_t n);
  * NOT_ASCII if the byte is not 32 to 126, BAD_PAIR above 63. bkgdset(), bkgd(). */
 uint32_t huttavel_set_background(huttavel *handle, uint32_t window, uint8_t byte, uint8_t attrs, uint32_t pair);
 uint32_t huttavel_change_background(huttavel *handle, uint32_t window, uint8_t byte, uint8_t attrs, uint32_t pair);
+
+/* The same with any character. Refused, before NO_WINDOW: NOT_ONE_COLUMN, BAD_PAIR above 63. bkgrndset(), bkgrnd(). */
+uint32_t huttavel_set_background_of(huttavel *handle, uint32_t window, uint32_t character, uint8_t attrs, uint32_t pair);
+uint32_t huttavel_change_background_of(huttavel *handle, uint32_t window, uint32_t character, uint8_t attrs,
+                                       uint32_t pair);
 
 /* ---- Settings */
 

@@ -1,4 +1,4 @@
-/* Calls that write characters: with a byte, a text, lines and borders. */
+/* Calls that write characters: one by one, and texts of them. */
 
 int wmove(WINDOW *window, int row, int column)
 {
@@ -25,21 +25,30 @@ static attr_t pen_of(const WINDOW *window, chtype character)
                                    : pen_for(window, character) | (character & A_ATTRIBUTES & ~A_COLOR);
 }
 
-/* Adds a byte with its attributes and pair; whether it needed a next line and there was none. */
-static uint32_t add_byte(WINDOW *window, chtype character, bool *stayed)
+/* Adds a character with its attributes and pair; whether it needed a next line and there was none. */
+static uint32_t add_code(WINDOW *window, struct rendered character, bool *stayed)
 {
-    huttavel *handle = handle_with(window, pen_for(window, character));
-    uint32_t fault = huttavel_add_byte(handle, window->number, byte_of(character), attrs_of(character), stayed);
+    huttavel *handle = handle_with(window, pen_for(window, character.rendition));
+    uint8_t attrs = attrs_of(character.rendition);
+    uint32_t fault = character.code < 128
+                         ? huttavel_add_byte(handle, window->number, (uint8_t)character.code, attrs, stayed)
+                         : huttavel_add_character(handle, window->number, character.code, attrs, stayed);
 
     read_cursor(window);
     return fault;
 }
 
-/* Whether a character is written as it is, and before the last place of a line. None is on curscr. */
+/* Whether characters are written before the last place of a line. None is on curscr. */
+static inline bool has_place(const WINDOW *window)
+{
+    return (unsigned)window->front.cursor.column < (unsigned)window->columns - 1;
+}
+
+/* Whether a character is written as it is there. */
 static inline bool is_simple(const WINDOW *window, chtype character)
 {
     return is_printable(byte_of(character)) && !((character | window->front.pen) & A_ALTCHARSET) &&
-           (unsigned)window->front.cursor.column < (unsigned)window->columns - 1;
+           has_place(window) && window->unended.count == 0;
 }
 
 /* Whether there is room for a character that a window writes with a pen behind those that were added last. */
@@ -50,13 +59,13 @@ static inline bool follows(const WINDOW *window, attr_t pen)
     return added->window == window && added->pen == pen && !window->is_moved && added->length < added->room;
 }
 
-/* Where simple characters that a window writes with a pen are put: at least one. */
-static struct added *added_to(WINDOW *window, attr_t pen)
+/* Where characters that a window writes with a pen are put: at least one, of so many bytes. */
+static struct added *added_to(WINDOW *window, attr_t pen, size_t size)
 {
     struct added *added = &window->screen->added;
     int left = window->columns - 1 - window->front.cursor.column;
 
-    if (follows(window, pen))
+    if (follows(window, pen) && added->length + size <= ADDED)
         return added;
     handle_with(window, pen);
     added->window = window;
@@ -75,14 +84,28 @@ static inline void put_behind(WINDOW *window, struct added *added, chtype charac
 /* Adds a simple character. */
 static void add_simple(WINDOW *window, chtype character)
 {
-    put_behind(window, added_to(window, pen_of(window, character)), character);
+    put_behind(window, added_to(window, pen_of(window, character), 1), character);
+}
+
+/* Adds a character before the last place of a line, in UTF-8. */
+static void add_encoded(WINDOW *window, struct rendered character)
+{
+    uint8_t bytes[LONGEST_SEQUENCE];
+    size_t size = encode(character.code, bytes);
+    struct added *added = added_to(window, pen_of(window, character.rendition) & ~A_ALTCHARSET, size);
+
+    memcpy(added->bytes + added->length, bytes, size);
+    added->length += size;
+    added->beyond += size - 1;
+    added->room = added->room + size - 1 < ADDED ? added->room + size - 1 : ADDED;
+    window->front.cursor.column++;
 }
 
 /* Adds so many simple characters. */
 static void add_all_simple(WINDOW *window, const char *text, size_t length)
 {
     while (length > 0) {
-        struct added *added = added_to(window, window->front.pen);
+        struct added *added = added_to(window, window->front.pen, 1);
         size_t left = added->room - added->length, count = left < length ? left : length;
 
         memcpy(added->bytes + added->length, text, count);
@@ -107,13 +130,13 @@ static bool begins_again(WINDOW *window)
 }
 
 /* Adds a character, `count` times. */
-static int add_character(WINDOW *window, chtype character, int count)
+static int add_character(WINDOW *window, struct rendered character, int count)
 {
     bool stayed = false;
     uint32_t fault = HUTTAVEL_OK;
 
     for (; count > 0 && !stayed && fault == HUTTAVEL_OK; count--) {
-        fault = add_byte(window, character, &stayed);
+        fault = add_code(window, character, &stayed);
         stayed = stayed && !begins_again(window);
     }
     return stayed ? ERR : answer(fault);
@@ -128,52 +151,122 @@ static bool is_at_end(const WINDOW *window)
     return !window->is_scrolling && window->front.cursor.row == (int)bottom;
 }
 
+/* The same attributes and pair with another character. */
+static struct rendered with_code(struct rendered character, uint32_t code)
+{
+    character.code = code;
+    return character;
+}
+
 /* Adds a tab: blanks with the window's attributes, which the library's tab has not. One that leaves its line is a line
    feed if there is a next line, and blanks to the end if there is none. */
-static int add_tab(WINDOW *window, chtype character)
+static int add_tab(WINDOW *window, struct rendered tab)
 {
     int count = 8 - getcurx(window) % 8;
 
     if (getcurx(window) + count >= window->columns && !is_at_end(window))
-        return add_character(window, character, 1);
-    return add_character(window, (character & A_ATTRIBUTES) | ' ', count);
+        return add_character(window, tab, 1);
+    return add_character(window, with_code(tab, ' '), count);
 }
 
-/* Whether a byte is written as `^` and a second character, which is the byte with one bit turned. */
-static bool is_shown_as_two(uint8_t byte)
+/* Whether a control character is written as two characters: `^` and its code with one bit turned or, from 128 on, `~`
+   and its code less 64. */
+static bool is_shown_as_two(uint32_t code)
 {
-    return byte == 127 || (byte < ' ' && byte != '\b' && byte != '\t' && byte != '\n' && byte != '\r');
+    return is_control(code) && code != '\b' && code != '\t' && code != '\n' && code != '\r';
+}
+
+static int add_control(WINDOW *window, struct rendered control)
+{
+    uint32_t code = control.code;
+
+    if (code == '\t')
+        return add_tab(window, control);
+    if (!is_shown_as_two(code))
+        return add_character(window, control, 1);
+    if (add_character(window, with_code(control, code < 128 ? '^' : '~'), 1) == ERR)
+        return ERR;
+    return add_character(window, with_code(control, code < 128 ? code ^ 64 : code - 64), 1);
+}
+
+/* What was written: how many places, if it was nothing but characters that cells hold. */
+struct written {
+    size_t places;
+    bool is_plain;
+};
+
+/* Adds a character, in a window. What comes after it is in its column: U+FFFD stands in all places of one that no cell
+   holds, and one without a place is left out. */
+static int add_drawn(WINDOW *window, struct rendered character, struct written *written)
+{
+    uint32_t columns = 1;
+
+    if (is_control(character.code)) {
+        written->is_plain = false;
+        return add_control(window, character);
+    }
+    if (character.code >= 160)
+        columns = fit(&character.code);
+    written->places += columns;
+    for (; columns > 0; columns--) {
+        if (has_place(window))
+            add_encoded(window, character);
+        else if (add_character(window, character, 1) == ERR)
+            return ERR;
+    }
+    return OK;
+}
+
+/* Adds a byte that is one of a character's in UTF-8, or ends what was begun of one in the same place. */
+static int add_part(WINDOW *window, chtype character, struct written *written)
+{
+    uint32_t codes[LONGEST_SEQUENCE];
+    const struct huttavel_curses_place *at = &window->unended_at;
+    size_t count, n;
+    int done = OK;
+
+    if (at->row != window->front.cursor.row || at->column != window->front.cursor.column)
+        window->unended.count = 0;
+    count = join(&window->unended, byte_of(character), codes);
+    for (n = 0; n < count && done == OK; n++)
+        done = add_drawn(window, drawn_on(window->screen, codes[n], character | (window->front.pen & A_ALTCHARSET)),
+                         written);
+    window->unended_at = window->front.cursor;
+    /* So that no character is put behind those that were added last. */
+    if (window->unended.count > 0)
+        window->screen->added.room = window->screen->added.length;
+    return done;
 }
 
 /* Adds a character, in a window. */
-static int add_one(WINDOW *window, chtype character)
+static int add_one(WINDOW *window, chtype character, struct written *written)
 {
+    uint8_t byte = byte_of(character);
+
     if (is_simple(window, character)) {
+        written->places++;
         add_simple(window, character);
         return OK;
     }
-    character = drawn_in(window, character);
-    if (byte_of(character) == '\t')
-        return add_tab(window, character);
-    if (is_shown_as_two(byte_of(character))) {
-        if (add_character(window, (character & A_ATTRIBUTES) | '^', 1) == ERR)
-            return ERR;
-        character ^= 64;
-    }
-    return add_character(window, character, 1);
+    if (byte >= 128 && !window->screen->is_utf8)
+        return ERR;
+    if (window->screen->is_utf8 && !(character & A_ALTCHARSET) && (byte >= 128 || window->unended.count > 0))
+        return add_part(window, character, written);
+    return add_drawn(window, drawn_in(window, character), written);
 }
 
 /* Adds a character, in a window, and marks its place. */
 static int add_marked(WINDOW *window, chtype character)
 {
+    struct written written = {0, true};
     struct huttavel_curses_place begun;
     int done;
 
     if (!window)
         return ERR;
     begun = window->front.cursor;
-    done = add_one(window, character);
-    mark_written(window, &begun, 1, is_printable(byte_of(character)));
+    done = add_one(window, character, &written);
+    mark_written(window, &begun, written.places, written.is_plain);
     return changed_marked(window, done);
 }
 
@@ -199,7 +292,7 @@ static size_t side_by_side(const WINDOW *window, size_t printable)
 {
     int room = window->columns - 1 - window->front.cursor.column;
 
-    if (room <= 0 || window->front.pen & A_ALTCHARSET || is_shown(window))
+    if (room <= 0 || window->front.pen & A_ALTCHARSET || window->unended.count > 0 || is_shown(window))
         return 0;
     return (size_t)room < printable ? (size_t)room : printable;
 }
@@ -215,15 +308,16 @@ static size_t count_printable(const char *text, size_t length)
 
 /* Adds the bytes of a text, which begins with so many that are printable, up to the first byte that is refused or finds
    no next line. */
-static int add_bytes(WINDOW *window, const char *text, size_t length, size_t printable)
+static int add_bytes(WINDOW *window, const char *text, size_t length, size_t printable, struct written *written)
 {
     while (length > 0) {
         size_t count = side_by_side(window, printable);
 
         if (count > 0) {
             add_all_simple(window, text, count);
+            written->places += count;
         } else {
-            if (add_one(window, (unsigned char)*text) == ERR)
+            if (add_one(window, (unsigned char)*text, written) == ERR)
                 return ERR;
             count = 1;
         }
@@ -242,6 +336,7 @@ static size_t length_of(const char *text, int most)
 
 int waddnstr(WINDOW *window, const char *text, int most)
 {
+    struct written written = {0, true};
     struct huttavel_curses_place begun;
     size_t length, printable;
     int done;
@@ -255,101 +350,12 @@ int waddnstr(WINDOW *window, const char *text, int most)
         return changed_marked(window, OK);
     }
     begun = window->front.cursor;
-    done = add_bytes(window, text, length, printable);
-    mark_written(window, &begun, length, printable == length);
+    done = add_bytes(window, text, length, printable, &written);
+    mark_written(window, &begun, written.places, written.is_plain);
     return changed_marked(window, done);
 }
 
 int waddstr(WINDOW *window, const char *text)
 {
     return waddnstr(window, text, -1);
-}
-
-/* Draws a line of a character, with its attributes and pair besides those of the window. */
-static int draw_line(uint32_t (*draw)(huttavel *, uint32_t, uint8_t, uint32_t), WINDOW *window, chtype character,
-                     int count)
-{
-    if (count <= 0)
-        return OK;
-    return answer(draw(handle_with(window, pen_of(window, character)), window->number, byte_of(character),
-                       (uint32_t)count));
-}
-
-/* A character that may be left out. */
-static chtype or_default(chtype character, chtype otherwise)
-{
-    return byte_of(character) ? character : otherwise | character;
-}
-
-int whline(WINDOW *window, chtype character, int count)
-{
-    if (!window)
-        return ERR;
-    character = or_default(drawn_in(window, character), ACS_HLINE);
-    mark(window, getcury(window), getcurx(window), getcurx(window) + count - 1);
-    return changed_marked(window, draw_line(huttavel_line_across, window, character, count));
-}
-
-int wvline(WINDOW *window, chtype character, int count)
-{
-    int row;
-
-    if (!window)
-        return ERR;
-    character = or_default(drawn_in(window, character), ACS_VLINE);
-    for (row = getcury(window); row - getcury(window) < count && row < window->rows; row++)
-        mark(window, row, getcurx(window), getcurx(window));
-    return changed_marked(window, draw_line(huttavel_line_down, window, character, count));
-}
-
-/* Draws a border piece by piece, each with its attributes. The cursor stays. */
-static int draw_border(WINDOW *window, const chtype pieces[8])
-{
-    int row = getcury(window), column = getcurx(window), n;
-    const int last_row = window->rows - 1, last_column = window->columns - 1;
-    const struct {
-        int row, column, count;
-        uint32_t (*draw)(huttavel *, uint32_t, uint8_t, uint32_t);
-    } lines[8] = {{0, 0, window->rows, huttavel_line_down},
-                  {0, last_column, window->rows, huttavel_line_down},
-                  {0, 0, window->columns, huttavel_line_across},
-                  {last_row, 0, window->columns, huttavel_line_across},
-                  {0, 0, 1, huttavel_line_across},
-                  {0, last_column, 1, huttavel_line_across},
-                  {last_row, 0, 1, huttavel_line_across},
-                  {last_row, last_column, 1, huttavel_line_across}};
-
-    for (n = 0; n < 8; n++) {
-        set_place(window, lines[n].row, lines[n].column);
-        if (draw_line(lines[n].draw, window, pieces[n], lines[n].count) == ERR)
-            break;
-    }
-    set_place(window, row, column);
-    return n == 8 ? OK : ERR;
-}
-
-int wborder(WINDOW *window, chtype left, chtype right, chtype top, chtype bottom, chtype top_left, chtype top_right,
-            chtype bottom_left, chtype bottom_right)
-{
-    /* The letters of the VT100's set that stand for pieces which are left out. */
-    static const char letters[] = "xxqqlkmj";
-    chtype pieces[8] = {left, right, top, bottom, top_left, top_right, bottom_left, bottom_right};
-    uint8_t bytes[8];
-    chtype all = 0;
-    int n;
-
-    if (!window || is_shown(window))
-        return ERR;
-    for (n = 0; n < 8; n++) {
-        pieces[n] = or_default(drawn_in(window, pieces[n]), acs_map[(int)letters[n]]);
-        bytes[n] = byte_of(pieces[n]);
-        all |= pieces[n];
-    }
-    return changed(window, all & A_ATTRIBUTES ? draw_border(window, pieces)
-                                              : answer(huttavel_border(handle_of(window), window->number, bytes)));
-}
-
-int box(WINDOW *window, chtype vertical, chtype horizontal)
-{
-    return wborder(window, vertical, vertical, horizontal, horizontal, 0, 0, 0, 0);
 }

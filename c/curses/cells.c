@@ -16,6 +16,7 @@ static void begin_cells(WINDOW *window, struct aside *aside)
     huttavel_background(handle, window->number, &aside->background);
     aside->cursor = window->front.cursor;
     huttavel_set_background(handle, window->number, ' ', 0, 0);
+    window->unended.count = 0;
 }
 
 static void end_cells(WINDOW *window, const struct aside *aside)
@@ -23,7 +24,7 @@ static void end_cells(WINDOW *window, const struct aside *aside)
     huttavel *handle = handle_of(window);
     const huttavel_cell *background = &aside->background;
 
-    huttavel_set_background(handle, window->number, background->byte, background->attrs, background->pair);
+    huttavel_set_background_of(handle, window->number, background->character, background->attrs, background->pair);
     set_pen(window, window->front.pen);
     set_place(window, aside->cursor.row, aside->cursor.column);
 }
@@ -34,18 +35,19 @@ static void put_alike(WINDOW *window, int row, int column, const huttavel_cell *
 {
     huttavel *handle = handle_of(window);
     int inner = column + count < window->columns ? count : count - 1, n;
-    uint8_t bytes[PIECE];
+    uint8_t bytes[PIECE * LONGEST_SEQUENCE];
+    size_t length = 0;
 
-    for (n = 0; n < count; n++)
-        bytes[n] = cells[n].byte;
+    for (n = 0; n < inner; n++)
+        length += encode(cells[n].character, bytes + length);
     set_held_pen(window, cells->attrs, cells->pair);
     huttavel_move_cursor(handle, window->number, (uint32_t)row, (uint32_t)column);
-    huttavel_add_text(handle, window->number, bytes, (size_t)inner, NULL);
+    huttavel_add_utf8(handle, window->number, bytes, length, NULL);
     if (inner < count)
-        huttavel_line_across(handle, window->number, bytes[inner], 1);
+        huttavel_line_across_of(handle, window->number, cells[inner].character, 1);
 }
 
-/* Writes at most PIECE cells, of bytes 32 to 126, side by side in a line that has room for them. */
+/* Writes at most PIECE cells, of characters that cells can hold, side by side in a line that has room for them. */
 static void put_cells(WINDOW *window, int row, int column, const huttavel_cell *cells, int count)
 {
     while (count > 0) {
@@ -60,39 +62,82 @@ static void put_cells(WINDOW *window, int row, int column, const huttavel_cell *
     }
 }
 
+/* Cells that are written from the cursor of a window on: how many were, and those that come next. */
+struct row {
+    WINDOW *window;
+    struct aside aside;
+    int written, count;
+    huttavel_cell cells[PIECE];
+};
+
+static void begin_row(struct row *row, WINDOW *window)
+{
+    row->window = window;
+    row->written = row->count = 0;
+    begin_cells(window, &row->aside);
+}
+
+static void write_row(struct row *row)
+{
+    const struct huttavel_curses_place *cursor = &row->aside.cursor;
+
+    put_cells(row->window, cursor->row, cursor->column + row->written, row->cells, row->count);
+    row->written += row->count;
+    row->count = 0;
+}
+
+static void put_cell(struct row *row, huttavel_cell cell)
+{
+    if (row->count == PIECE)
+        write_row(row);
+    row->cells[row->count++] = cell;
+}
+
+/* Gives the answer of the call. */
+static int end_row(struct row *row)
+{
+    const struct huttavel_curses_place *cursor = &row->aside.cursor;
+
+    write_row(row);
+    end_cells(row->window, &row->aside);
+    mark(row->window, cursor->row, cursor->column, cursor->column + row->written - 1);
+    return changed_marked(row->window, OK);
+}
+
+/* How many places there are from the cursor to the end of the line, at most `most` if that is not negative. */
+static int places_left(const WINDOW *window, int most)
+{
+    int left = window->columns - window->front.cursor.column;
+
+    return most < 0 || most > left ? left : most;
+}
+
 /* How many of the characters are written, where there is room for so many; -1 if no cell can hold one of them. They end
    before one whose byte is 0. */
-static int characters_in(const chtype *characters, int most)
+static int characters_in(const WINDOW *window, const chtype *characters, int most)
 {
     int count;
 
     for (count = 0; count < most && byte_of(characters[count]); count++)
-        if (!is_printable(byte_of(drawn(characters[count]))))
+        if (!has_cell(drawn(window->screen, characters[count]).code))
             return -1;
     return count;
 }
 
 int waddchnstr(WINDOW *window, const chtype *characters, int most)
 {
-    struct aside aside;
-    huttavel_cell cells[PIECE];
-    int count, done, n;
+    struct row row;
+    int count, n;
 
     if (!window || !characters || is_shown(window))
         return ERR;
-    count = window->columns - window->front.cursor.column;
-    count = characters_in(characters, most < 0 || most > count ? count : most);
+    count = characters_in(window, characters, places_left(window, most));
     if (count < 0)
         return ERR;
-    begin_cells(window, &aside);
-    for (done = 0; done < count; done += n) {
-        for (n = 0; n < PIECE && done + n < count; n++)
-            cells[n] = cell_of(drawn(characters[done + n]));
-        put_cells(window, aside.cursor.row, aside.cursor.column + done, cells, n);
-    }
-    end_cells(window, &aside);
-    mark(window, aside.cursor.row, aside.cursor.column, aside.cursor.column + count - 1);
-    return changed_marked(window, OK);
+    begin_row(&row, window);
+    for (n = 0; n < count; n++)
+        put_cell(&row, cell_of(drawn(window->screen, characters[n])));
+    return end_row(&row);
 }
 
 int waddchstr(WINDOW *window, const chtype *characters)
@@ -100,31 +145,27 @@ int waddchstr(WINDOW *window, const chtype *characters)
     return waddchnstr(window, characters, -1);
 }
 
-/* Gives cells from the cursor on other attributes and another pair. Their bytes stay. */
+/* Gives cells from the cursor on other attributes and another pair. Their characters stay. */
 int wchgat(WINDOW *window, int count, attr_t attrs, short pair, const void *options)
 {
-    struct aside aside;
-    huttavel_cell cells[PIECE];
+    const struct huttavel_curses_place *cursor;
+    huttavel_cell cell;
+    struct row row;
     uint8_t held;
-    int room, done, n;
+    int n;
 
     (void)options;
     if (!window || is_shown(window) || pair < 0 || pair >= pair_limit(window->screen))
         return ERR;
     held = (uint8_t)held_pair(window->screen, pair);
-    room = window->columns - window->front.cursor.column;
-    if (count < 0 || count > room)
-        count = room;
-    begin_cells(window, &aside);
-    for (done = 0; done < count; done += n) {
-        for (n = 0; n < PIECE && done + n < count; n++) {
-            cell_at(window, aside.cursor.row, aside.cursor.column + done + n, &cells[n]);
-            cells[n].attrs = attrs_of(attrs);
-            cells[n].pair = held;
-        }
-        put_cells(window, aside.cursor.row, aside.cursor.column + done, cells, n);
+    count = places_left(window, count);
+    begin_row(&row, window);
+    cursor = &row.aside.cursor;
+    for (n = 0; n < count; n++) {
+        cell_at(window, cursor->row, cursor->column + n, &cell);
+        cell.attrs = attrs_of(attrs);
+        cell.pair = held;
+        put_cell(&row, cell);
     }
-    end_cells(window, &aside);
-    mark(window, aside.cursor.row, aside.cursor.column, aside.cursor.column + count - 1);
-    return changed_marked(window, OK);
+    return end_row(&row);
 }

@@ -1,6 +1,6 @@
 /* Windows and screens in files. A file begins with a line that tells its kind and the version of this format; numbers
-   follow, each after a blank or at the beginning of a line: what the window or the screen is, and its cells as chtypes,
-   line by line. A file of any other form is refused. */
+   follow, each after a blank or at the beginning of a line: what the window or the screen is, and its cells, line by
+   line. A file of any other form is refused. */
 
 static const char window_begin[] = "huttavel window 1\n", screen_begin[] = "huttavel screen 1\n", file_end[] = "end\n";
 
@@ -14,7 +14,7 @@ enum {
 
 /* The largest number of each kind. */
 static const long saved_most[SAVED_COUNT] = {
-    LARGEST_PAD, LARGEST_PAD, LARGEST, LARGEST, 1, LARGEST_PAD, LARGEST_PAD, LARGEST_CHARACTER, LARGEST_CHARACTER,
+    LARGEST_PAD, LARGEST_PAD, LARGEST, LARGEST, 1, LARGEST_PAD, LARGEST_PAD, LARGEST_ATTRIBUTES, LARGEST_CELL,
     LARGEST_PAD, LARGEST_PAD, 1, 1, 1, 1, INT_MAX, 1, 1
 };
 
@@ -27,8 +27,10 @@ static void save_window(WINDOW *window, long *saved)
     huttavel *handle = handle_of(window);
     uint32_t top = 0, bottom = 0;
     bool leaves = false;
+    huttavel_cell background = {' ', 0, 0, ' '};
     attr_t attrs = 0;
 
+    huttavel_background(handle, window->number, &background);
     huttavel_region(handle, window->number, &top, &bottom);
     huttavel_is_leave_ok(handle, window->number, &leaves);
     wattr_get(window, &attrs, NULL, NULL);
@@ -40,7 +42,7 @@ static void save_window(WINDOW *window, long *saved)
     saved[SAVED_CURSOR_ROW] = getcury(window);
     saved[SAVED_CURSOR_COLUMN] = getcurx(window);
     saved[SAVED_ATTRS] = (long)attrs;
-    saved[SAVED_BACKGROUND] = (long)getbkgd(window);
+    saved[SAVED_BACKGROUND] = number_of_cell(window->screen, background);
     saved[SAVED_TOP] = (long)top;
     saved[SAVED_BOTTOM] = (long)bottom;
     saved[SAVED_SCROLLS] = window->is_scrolling;
@@ -68,14 +70,16 @@ int putwin(WINDOW *window, FILE *file)
 /* Gives a window the numbers and cells that were read. False if one of them cannot be its own. */
 static bool restore_window(WINDOW *window, const long *saved, const huttavel_cell *cells)
 {
-    chtype attrs = (chtype)saved[SAVED_ATTRS], background = (chtype)saved[SAVED_BACKGROUND];
+    chtype attrs = (chtype)saved[SAVED_ATTRS];
+    huttavel_cell background;
 
-    if (!is_cell(background) ||
+    if (!is_cell(window->screen, saved[SAVED_BACKGROUND], &background) ||
         wmove(window, (int)saved[SAVED_CURSOR_ROW], (int)saved[SAVED_CURSOR_COLUMN]) == ERR ||
         wsetscrreg(window, (int)saved[SAVED_TOP], (int)saved[SAVED_BOTTOM]) == ERR)
         return false;
     put_all(window, cells);
-    wbkgdset(window, background);
+    huttavel_set_background_of(handle_of(window), window->number, background.character, background.attrs,
+                               background.pair);
     wattr_set(window, attrs, (short)PAIR_NUMBER(attrs), NULL);
     scrollok(window, saved[SAVED_SCROLLS] != 0);
     leaveok(window, saved[SAVED_LEAVES] != 0);

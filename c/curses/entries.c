@@ -172,6 +172,14 @@ static size_t flags_of(const struct text *entry)
     return NAMES + short_at(entry, 2);
 }
 
+/* Whether an entry has the flag at a position. */
+static bool has_flag(const struct text *entry, size_t position)
+{
+    size_t place = flags_of(entry) + position;
+
+    return position < short_at(entry, 4) && place < entry->length && entry->bytes[place] == 1;
+}
+
 static size_t numbers_of(const struct text *entry)
 {
     size_t end = flags_of(entry) + short_at(entry, 4);

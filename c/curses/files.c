@@ -1,13 +1,24 @@
 /* Numbers and cells in files. */
 
-/* The greatest number of cells of a window, and the largest chtype. */
+/* The greatest number of cells of a window, the largest set of attributes with a pair, and the largest cell. */
 #define LARGEST_PAD 1000000
-#define LARGEST_CHARACTER 0x3fffff
+#define LARGEST_ATTRIBUTES 0xffff00L
+#define LARGEST_CELL 0xffffffffL
 
-/* Whether a cell can hold all of a chtype. */
-static bool is_cell(chtype character)
+/* A cell as a number: a chtype, with what is beyond a byte of its character's code above it. */
+static long number_of_cell(const SCREEN *screen, huttavel_cell cell)
 {
-    return is_printable(byte_of(character)) && character_of(current, cell_of(character)) == character;
+    return (long)(cell.character & 255) | (long)cell.attrs << 8 | (long)COLOR_PAIR(named_pair(screen, cell.pair)) |
+           (long)(cell.character >> 8) << 24;
+}
+
+/* The cell of a number. False if a screen's cells hold no such one. */
+static bool is_cell(const SCREEN *screen, long number, huttavel_cell *cell)
+{
+    struct rendered character = {(uint32_t)(number & 255) | (uint32_t)(number >> 24) << 8, (attr_t)number & 0xffff00u};
+
+    *cell = cell_of(character);
+    return has_cell(character.code) && number_of_cell(screen, *cell) == number;
 }
 
 /* Writes a line of numbers. */
@@ -65,7 +76,8 @@ static bool write_cells(FILE *file, WINDOW *window)
     for (row = 0; row < window->rows; row++)
         for (column = 0; column < window->columns; column++)
             if (!cell_at(window, row, column, &cell) ||
-                fprintf(file, "%u%c", character_of(window->screen, cell), column == window->columns - 1 ? '\n' : ' ') < 0)
+                fprintf(file, "%ld%c", number_of_cell(window->screen, cell),
+                        column == window->columns - 1 ? '\n' : ' ') < 0)
                 return false;
     return true;
 }
@@ -80,11 +92,10 @@ static huttavel_cell *read_cells(FILE *file, int rows, int columns)
     for (n = 0; cells && n < rows * columns; n++) {
         char after = n % columns == columns - 1 ? '\n' : ' ';
 
-        if (!read_number(file, LARGEST_CHARACTER, after, &number) || !is_cell((chtype)number)) {
+        if (!read_number(file, LARGEST_CELL, after, &number) || !is_cell(current, number, &cells[n])) {
             free(cells);
             return NULL;
         }
-        cells[n] = cell_of((chtype)number);
     }
     return cells;
 }

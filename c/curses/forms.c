@@ -51,6 +51,25 @@ FORMS0(int, getch)
 FORMS1(int, getstr, char *)
 FORMS2(int, getnstr, char *)
 
+FORMS1(int, add_wch, const cchar_t *)
+FORMS1(int, addwstr, const wchar_t *)
+FORMS2(int, addnwstr, const wchar_t *)
+FORMS1(int, add_wchstr, const cchar_t *)
+FORMS2(int, add_wchnstr, const cchar_t *)
+FORMS1(int, ins_wch, const cchar_t *)
+FORMS1(int, ins_wstr, const wchar_t *)
+FORMS2(int, ins_nwstr, const wchar_t *)
+FORMS2(int, hline_set, const cchar_t *)
+FORMS2(int, vline_set, const cchar_t *)
+FORMS1(int, in_wch, cchar_t *)
+FORMS1(int, in_wchstr, cchar_t *)
+FORMS2(int, in_wchnstr, cchar_t *)
+FORMS1(int, inwstr, wchar_t *)
+FORMS2(int, innwstr, wchar_t *)
+FORMS1(int, get_wch, wint_t *)
+FORMS1(int, get_wstr, wint_t *)
+FORMS2(int, getn_wstr, wint_t *)
+
 STANDARD(int, chgat, (int count, attr_t attrs, short pair, const void *options), stdscr, count, attrs, pair, options)
 MOVED(int, chgat, (int row, int column, int count, attr_t attrs, short pair, const void *options), stdscr, count, attrs,
       pair, options)
@@ -84,6 +103,19 @@ STANDARD(int, scrl, (int count), stdscr, count)
 STANDARD(int, border, (chtype left, chtype right, chtype top, chtype bottom, chtype top_left, chtype top_right,
                        chtype bottom_left, chtype bottom_right),
          stdscr, left, right, top, bottom, top_left, top_right, bottom_left, bottom_right)
+
+STANDARD(int, echo_wchar, (const cchar_t *character), stdscr, character)
+STANDARD(int, bkgrnd, (const cchar_t *background), stdscr, background)
+STANDARD(int, getbkgrnd, (cchar_t * background), stdscr, background)
+STANDARD(int, border_set, (const cchar_t *left, const cchar_t *right, const cchar_t *top, const cchar_t *bottom,
+                           const cchar_t *top_left, const cchar_t *top_right, const cchar_t *bottom_left,
+                           const cchar_t *bottom_right),
+         stdscr, left, right, top, bottom, top_left, top_right, bottom_left, bottom_right)
+
+void bkgrndset(const cchar_t *background)
+{
+    wbkgrndset(stdscr, background);
+}
 
 void bkgdset(chtype background)
 {

@@ -3,23 +3,23 @@
 
 /* Inserts a character that a cell can hold, and says where the next one goes. Behind the last column it stays there:
    what is inserted is lost. */
-static int insert_cell(WINDOW *window, struct huttavel_curses_place *at, chtype character)
+static int insert_cell(WINDOW *window, struct huttavel_curses_place *at, struct rendered character)
 {
     if (at->column == window->columns)
         return OK;
     set_place(window, at->row, at->column);
     at->column++;
-    return answer(huttavel_insert_byte(handle_with(window, pen_for(window, character)), window->number,
-                                       byte_of(character), attrs_of(character)));
+    return answer(huttavel_insert_character(handle_with(window, pen_for(window, character.rendition)), window->number,
+                                            character.code, attrs_of(character.rendition)));
 }
 
-/* Inserts blanks up to the next stop. */
-static int insert_tab(WINDOW *window, struct huttavel_curses_place *at, attr_t attrs)
+/* Inserts the same one so many times. */
+static int insert_cells(WINDOW *window, struct huttavel_curses_place *at, struct rendered character, int count)
 {
-    int count = 8 - at->column % 8, done = OK;
+    int done = OK;
 
     for (; count > 0 && done == OK; count--)
-        done = insert_cell(window, at, attrs | ' ');
+        done = insert_cell(window, at, character);
     return done;
 }
 
@@ -43,20 +43,32 @@ static int insert_line_feed(WINDOW *window, struct huttavel_curses_place *at)
     return OK;
 }
 
-/* Inserts a character, or does what it says. */
-static int insert_one(WINDOW *window, struct huttavel_curses_place *at, chtype character)
+/* Inserts a control character as two, as it is added. */
+static int insert_two(WINDOW *window, struct huttavel_curses_place *at, struct rendered control)
 {
-    attr_t attrs = character & A_ATTRIBUTES;
+    uint32_t code = control.code;
 
-    switch (byte_of(character)) {
-    case '\t': return insert_tab(window, at, attrs);
+    if (insert_cell(window, at, with_code(control, code < 128 ? '^' : '~')) == ERR)
+        return ERR;
+    return insert_cell(window, at, with_code(control, code < 128 ? code ^ 64 : code - 64));
+}
+
+/* Inserts a character, or does what it says. What comes after it is in its column, as where it is added. */
+static int insert_drawn(WINDOW *window, struct huttavel_curses_place *at, struct rendered character)
+{
+    uint32_t columns = 1;
+
+    switch (character.code) {
+    case '\t': return insert_cells(window, at, with_code(character, ' '), 8 - at->column % 8);
     case '\n': return insert_line_feed(window, at);
     case '\r': at->column = 0; return OK;
     case '\b': at->column -= at->column > 0; return OK;
     }
-    if (!is_shown_as_two(byte_of(character)))
-        return insert_cell(window, at, character);
-    return insert_cell(window, at, attrs | '^') == ERR ? ERR : insert_cell(window, at, character ^ 64);
+    if (is_shown_as_two(character.code))
+        return insert_two(window, at, character);
+    if (character.code >= 160)
+        columns = fit(&character.code);
+    return insert_cells(window, at, character, (int)columns);
 }
 
 /* Puts the cursor where the insertion began. */
@@ -66,29 +78,66 @@ static int end_insertion(WINDOW *window, const struct huttavel_curses_place *beg
     return changed(window, done);
 }
 
+/* Inserts a byte of a character in UTF-8, which is inserted with the last of them: then those that were inserted before
+   are bytes in the same place. */
+static int insert_part(WINDOW *window, struct huttavel_curses_place *at, chtype character)
+{
+    uint32_t codes[LONGEST_SEQUENCE];
+    size_t count, n;
+    int done = OK;
+
+    if (window->unended_at.row != at->row || window->unended_at.column != at->column)
+        window->unended.count = 0;
+    window->unended_at = *at;
+    count = join(&window->unended, byte_of(character), codes);
+    for (n = 0; n < count && done == OK; n++)
+        done = insert_drawn(window, at, drawn_on(window->screen, codes[n], character));
+    return done;
+}
+
 int winsch(WINDOW *window, chtype character)
 {
     struct huttavel_curses_place begun, at;
+    uint8_t byte = byte_of(character);
+    bool is_alone = byte < 128 || character & A_ALTCHARSET;
 
-    if (!window || is_shown(window))
+    if (!window || is_shown(window) || (byte >= 128 && !window->screen->is_utf8))
         return ERR;
     begun = at = window->front.cursor;
-    return end_insertion(window, &begun, insert_one(window, &at, drawn_in(window, character)));
+    if (is_alone)
+        return end_insertion(window, &begun, insert_drawn(window, &at, drawn_in(window, character)));
+    return end_insertion(window, &begun, insert_part(window, &at, character));
+}
+
+/* Inserts the character that bytes begin with, and gives how many of them it has; 0 if it is refused. */
+static size_t insert_first(WINDOW *window, struct huttavel_curses_place *at, const uint8_t *bytes, size_t count)
+{
+    uint32_t code = bytes[0];
+    int length = window->screen->is_utf8 ? decode(bytes, count, &code) : code < 128;
+
+    if (length <= 0) {
+        if (!window->screen->is_utf8)
+            return 0;
+        code = REPLACEMENT;
+        length = 1;
+    }
+    return insert_drawn(window, at, drawn_on(window->screen, code, window->front.pen & A_ALTCHARSET)) == OK
+               ? (size_t)length
+               : 0;
 }
 
 /* Inserts a text up to the first byte that is refused; all of it where `most` is below 1. */
 int winsnstr(WINDOW *window, const char *text, int most)
 {
     struct huttavel_curses_place begun, at;
-    size_t length;
-    int done = OK;
+    size_t length, taken = 1;
 
     if (!window || is_shown(window) || !text)
         return ERR;
     begun = at = window->front.cursor;
-    for (length = length_of(text, most < 1 ? -1 : most); length > 0 && done == OK; length--)
-        done = insert_one(window, &at, drawn_in(window, (unsigned char)*text++));
-    return end_insertion(window, &begun, done);
+    for (length = length_of(text, most < 1 ? -1 : most); length > 0 && taken > 0; length -= taken, text += taken)
+        taken = insert_first(window, &at, (const uint8_t *)text, length);
+    return end_insertion(window, &begun, taken > 0 ? OK : ERR);
 }
 
 int winsstr(WINDOW *window, const char *text)

@@ -38,19 +38,24 @@ static WINDOW *label_line(void)
 /* Writes a label of that width. */
 static void draw_label(const struct labels *labels, int which, int column, int width)
 {
-    const char *text = labels->all[which].text;
-    int length = (int)strlen(text), blanks;
-    chtype characters[LABEL_WIDTH];
-    const attr_t look = (attr_t)getattrs(labels->line);
+    const uint32_t *codes = labels->all[which].codes;
+    int length = labels->all[which].length, blanks;
+    struct rendered character = {' ', (attr_t)getattrs(labels->line)};
+    struct row row;
     int n;
 
     if (length > width)
         length = width;
     blanks = (width - length) * labels->all[which].justify / 2;
-    for (n = 0; n < width; n++)
-        characters[n] = look | (n < blanks || n >= blanks + length ? (chtype)' ' : (unsigned char)text[n - blanks]);
-    if (wmove(labels->line, 0, column) == OK)
-        waddchnstr(labels->line, characters, width);
+    if (wmove(labels->line, 0, column) == ERR)
+        return;
+    begin_row(&row, labels->line);
+    for (n = 0; n < width; n++) {
+        bool is_blank = n < blanks || n >= blanks + length;
+
+        put_cell(&row, cell_of(with_code(character, is_blank ? ' ' : codes[n - blanks])));
+    }
+    end_row(&row);
 }
 
 /* Writes all labels. One blank is between two of a group; what room is left is between the groups: 3, 2 and 3 labels,
@@ -118,26 +123,63 @@ int slk_touch(void)
     return touchwin(label_line());
 }
 
-/* Sets a label, 1 to 8, and where it stands: 0 left, 1 centred, 2 right. It is cut off after eight characters, and
-   before one that no cell holds; blanks before and after it don't count. */
+/* Takes over the characters of a label: at most eight, without blanks before and after them. */
+static void take_label(struct labels *labels, int which, const uint32_t *codes, int length)
+{
+    char *text = labels->all[which].text;
+    int n;
+
+    while (length > 0 && codes[length - 1] == ' ')
+        length--;
+    labels->all[which].length = length;
+    for (n = 0; n < length; n++) {
+        labels->all[which].codes[n] = codes[n];
+        text += encode(codes[n], (uint8_t *)text);
+    }
+    *text = '\0';
+}
+
+/* Whether there is such a label, and such a place where it stands: 0 left, 1 centred, 2 right. */
+static bool is_label(const struct labels *labels, int number, int justify)
+{
+    return labels && number >= 1 && number <= LABELS && justify >= 0 && justify <= 2;
+}
+
+/* Sets a label, 1 to 8, and where it stands. It is cut off after eight characters, and before one that no cell holds;
+   blanks before and after it don't count. */
 int slk_set(int number, const char *text, int justify)
 {
     struct labels *labels = labels_of(current);
-    char *kept;
-    int length = 0;
+    uint32_t codes[LABEL_WIDTH];
+    int length = 0, size = 1;
 
-    if (!labels || number < 1 || number > LABELS || justify < 0 || justify > 2)
+    if (!is_label(labels, number, justify))
         return ERR;
-    kept = labels->all[number - 1].text;
     while (text && *text == ' ')
         text++;
-    while (text && length < LABEL_WIDTH && is_printable((uint8_t)text[length])) {
-        kept[length] = text[length];
-        length++;
+    for (; text && *text && length < LABEL_WIDTH; text += size, length++) {
+        size = decode((const uint8_t *)text, strnlen(text, LONGEST_SEQUENCE), &codes[length]);
+        if (size <= 0 || (size > 1 && !current->is_utf8) || !has_cell(codes[length]))
+            break;
     }
-    while (length > 0 && kept[length - 1] == ' ')
-        length--;
-    kept[length] = '\0';
+    take_label(labels, number - 1, codes, length);
+    labels->all[number - 1].justify = justify;
+    return OK;
+}
+
+int slk_wset(int number, const wchar_t *text, int justify)
+{
+    struct labels *labels = labels_of(current);
+    uint32_t codes[LABEL_WIDTH];
+    int length = 0;
+
+    if (!is_label(labels, number, justify))
+        return ERR;
+    while (text && *text == L' ')
+        text++;
+    for (; text && length < LABEL_WIDTH && has_cell((uint32_t)text[length]); length++)
+        codes[length] = (uint32_t)text[length];
+    take_label(labels, number - 1, codes, length);
     labels->all[number - 1].justify = justify;
     return OK;
 }

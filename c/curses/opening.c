@@ -1,16 +1,30 @@
 /* Opening, choosing and closing screens. */
 
-/* Opens a handle on the screen's entry, without the strings which are sent here. A terminal whose size nothing says has
-   24 rows of 80 columns. */
+/* The positions of the flags that are asked for here. */
+#define AUTO_RIGHT_MARGIN 1
+#define EAT_NEWLINE_GLITCH 4
+
+/* How many of its last columns a terminal's screen leaves out: one, where a character there would scroll. */
+static int columns_left_out(const struct text *entry)
+{
+    return entry->bytes && has_flag(entry, AUTO_RIGHT_MARGIN) && !has_flag(entry, EAT_NEWLINE_GLITCH) ? 1 : 0;
+}
+
+/* Opens a handle on the screen's entry and a terminal of this size, without the strings which are sent here. A terminal
+   whose size nothing says has 24 rows of 80 columns. */
 static uint32_t open_handle(const SCREEN *screen, huttavel *handle, uint32_t rows, uint32_t columns)
 {
     struct text entry = entry_of_updates(&screen->entry);
+    huttavel_opening opening = {rows, columns, screen->is_utf8 ? HUTTAVEL_UTF8 : HUTTAVEL_ASCII};
     uint32_t fault = HUTTAVEL_NO_MEMORY;
 
     if (entry.bytes)
-        fault = huttavel_open(handle, entry.bytes, entry.length, rows, columns, NULL);
-    if (fault == HUTTAVEL_NO_SIZE)
-        fault = huttavel_open(handle, entry.bytes, entry.length, 24, 80, NULL);
+        fault = huttavel_open_as(handle, entry.bytes, entry.length, &opening, NULL);
+    if (fault == HUTTAVEL_NO_SIZE) {
+        opening.rows = 24;
+        opening.columns = 80;
+        fault = huttavel_open_as(handle, entry.bytes, entry.length, &opening, NULL);
+    }
     free(entry.bytes);
     return fault;
 }
@@ -98,8 +112,10 @@ static SCREEN *made_screen(const char *type, int output, int input, const char *
     screen->output = output;
     screen->visibility = 1;
     screen->mouse.interval = CLICK_INTERVAL;
+    screen->is_utf8 = has_utf8();
     begin_pairs(&screen->all_pairs);
     screen->entry = find_entry(&search);
+    screen->left_out = columns_left_out(&screen->entry);
     screen->name = calloc(strlen(type) + 1, 1);
     screen->waiting.bytes = malloc(4096);
     screen->waiting.length = screen->waiting.bytes ? 4096 : 0;
@@ -134,6 +150,8 @@ SCREEN *set_term(SCREEN *screen)
     COLS = screen ? screen->columns : 0;
     COLORS = screen ? screen->colors : 0;
     COLOR_PAIRS = screen ? screen->pairs : 0;
+    if (screen)
+        show_lines(screen);
     set_curterm(screen ? screen->terminal : NULL);
     return before;
 }

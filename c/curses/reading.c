@@ -69,30 +69,80 @@ chtype winch(WINDOW *window)
     return read_character(window);
 }
 
-/* Reads from the cursor to the end of the line, at most so many if `most` is not negative: as characters, or else as
-   bytes. How many there were. */
-static int read_from_cursor(WINDOW *window, chtype *characters, char *text, int most)
+/* Where cells that are read go: as chtypes, as cells of wide characters, or as a text; how many there are, and how many
+   there may be. */
+struct read {
+    chtype *characters;
+    cchar_t *wide;
+    wchar_t *wide_text;
+    char *text;
+    int count, most;
+};
+
+/* The cell of a wide character. */
+static cchar_t wide_of(const SCREEN *screen, huttavel_cell cell)
 {
-    int row = window->front.cursor.row, column = window->front.cursor.column, done = 0, count, n;
+    cchar_t wide = {(attr_t)cell.attrs << 8 | COLOR_PAIR(named_pair(screen, cell.pair)), {0}};
+
+    wide.chars[0] = (wchar_t)cell.character;
+    return wide;
+}
+
+/* Puts the character of a cell behind a text: its bytes in UTF-8, or the byte that stands for it. False if there is no
+   room for all of them. */
+static bool read_text(const SCREEN *screen, struct read *read, const huttavel_cell *cell)
+{
+    uint8_t bytes[LONGEST_SEQUENCE] = {cell->byte};
+    int size = screen->is_utf8 ? (int)encode(cell->character, bytes) : 1;
+
+    if (size > read->most - read->count)
+        return false;
+    memcpy(read->text + read->count, bytes, (size_t)size);
+    read->count += size;
+    return true;
+}
+
+/* Takes a cell over. False if there is no room for it. */
+static bool read_cell(const SCREEN *screen, struct read *read, const huttavel_cell *cell)
+{
+    if (read->text)
+        return read_text(screen, read, cell);
+    if (read->count == read->most)
+        return false;
+    if (read->characters)
+        read->characters[read->count] = character_of(screen, *cell);
+    else if (read->wide)
+        read->wide[read->count] = wide_of(screen, *cell);
+    else
+        read->wide_text[read->count] = (wchar_t)cell->character;
+    read->count++;
+    return true;
+}
+
+/* Reads from the cursor to the end of the line, at most so much if `most` is not negative. How much there was. */
+static int read_from_cursor(WINDOW *window, struct read read, int most)
+{
+    int row = window->front.cursor.row, column = window->front.cursor.column, count, n;
     huttavel_cell cells[LONGEST_READ];
 
+    read.most = most < 0 ? INT_MAX : most;
     do {
-        count = most < 0 || most - done > LONGEST_READ ? LONGEST_READ : most - done;
-        count = cells_at(window, row, column + done, cells, count);
-        for (n = 0; n < count; n++, done++)
-            if (characters)
-                characters[done] = character_of(window->screen, cells[n]);
-            else
-                text[done] = (char)cells[n].byte;
-    } while (count > 0);
-    return done;
+        count = read.most - read.count > LONGEST_READ ? LONGEST_READ : read.most - read.count;
+        count = cells_at(window, row, column, cells, count);
+        column += count;
+        for (n = 0; n < count && read_cell(window->screen, &read, &cells[n]); n++)
+            ;
+    } while (count > 0 && n == count);
+    return read.count;
 }
 
 int winchnstr(WINDOW *window, chtype *cells, int most)
 {
+    struct read read = {.characters = cells};
+
     if (!window || !cells || is_shown(window))
         return ERR;
-    cells[read_from_cursor(window, cells, NULL, most)] = 0;
+    cells[read_from_cursor(window, read, most)] = 0;
     return OK;
 }
 
@@ -101,14 +151,15 @@ int winchstr(WINDOW *window, chtype *cells)
     return winchnstr(window, cells, -1);
 }
 
-/* How many characters were read. */
+/* How many bytes were read. */
 int winnstr(WINDOW *window, char *text, int most)
 {
+    struct read read = {.text = text};
     int count;
 
     if (!window || !text || is_shown(window))
         return ERR;
-    count = read_from_cursor(window, NULL, text, most);
+    count = read_from_cursor(window, read, most);
     text[count] = '\0';
     return count;
 }

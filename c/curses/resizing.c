@@ -55,11 +55,11 @@ static void copy_cells(WINDOW *window, huttavel *to, uint32_t number, const stru
 
     for (row = 0; row < window->rows && row < plan->rows.length; row++)
         for (column = 0; column < window->columns && column < plan->columns.length; column++) {
-            if (!cell_at(window, row, column, &cell) || (cell.byte == ' ' && !cell.attrs && !cell.pair))
+            if (!cell_at(window, row, column, &cell) || (cell.character == ' ' && !cell.attrs && !cell.pair))
                 continue;
             huttavel_move_cursor(to, number, (uint32_t)row, (uint32_t)column);
             huttavel_color_set(to, number, cell.pair);
-            huttavel_add_byte(to, number, cell.byte, cell.attrs, NULL);
+            huttavel_add_character(to, number, cell.character, cell.attrs, NULL);
         }
 }
 
@@ -67,13 +67,13 @@ static void copy_cells(WINDOW *window, huttavel *to, uint32_t number, const stru
 static void copy_settings(WINDOW *window, huttavel *to, uint32_t number, const struct plan *plan)
 {
     huttavel *from = handle_of(window);
-    huttavel_cell background = {' ', 0, 0};
+    huttavel_cell background = {' ', 0, 0, ' '};
     uint32_t top = 0, bottom = 0;
     int row = window->front.cursor.row, column = window->front.cursor.column;
     bool is_on = false;
 
     huttavel_background(from, window->number, &background);
-    huttavel_set_background(to, number, background.byte, background.attrs, background.pair);
+    huttavel_set_background_of(to, number, background.character, background.attrs, background.pair);
     huttavel_attr_set(to, number, window->attrs);
     huttavel_color_set(to, number, window->pair);
     huttavel_scroll_ok(to, number, window->is_scrolling);
@@ -238,15 +238,17 @@ static uint32_t copy_picture(SCREEN *screen, huttavel *to, int rows, int columns
     return huttavel_delete(to, number);
 }
 
-/* Whether a screen has another size than this. */
+/* Whether a screen on a terminal of this size has another one than before. */
 static bool is_other_size(const SCREEN *screen, int rows, int columns)
 {
-    return rows != screen->shown->rows || columns != screen->shown->columns;
+    return rows != screen->shown->rows || columns - screen->left_out != screen->shown->columns;
 }
 
-/* Gives a screen another size. ERR, and all stays, if it leaves no row for stdscr or memory runs out. */
-static int resize_to(SCREEN *screen, int rows, int columns)
+/* Gives a screen the size that it has on a terminal of this one. ERR, and all stays, if it leaves no place for stdscr
+   or memory runs out. */
+static int resize_to(SCREEN *screen, int rows, int given)
 {
+    int columns = given - screen->left_out;
     huttavel to = HUTTAVEL_CLOSED_HANDLE;
     size_t count = 0;
     const WINDOW *window;
@@ -254,13 +256,13 @@ static int resize_to(SCREEN *screen, int rows, int columns)
     struct text plain = {NULL, 0};
     bool is_done = false;
 
-    if (rows <= screen->above + screen->below || columns <= 0 || rows > LARGEST || columns > LARGEST)
+    if (rows <= screen->above + screen->below || columns <= 0 || rows > LARGEST || given > LARGEST)
         return ERR;
     for (window = screen->windows; window; window = window->next)
         count++;
     all = calloc(count + 1, sizeof *all);
     if (all && write_waiting(screen) == OK &&
-        open_handle(screen, &to, (uint32_t)rows, (uint32_t)columns) == HUTTAVEL_OK)
+        open_handle(screen, &to, (uint32_t)rows, (uint32_t)given) == HUTTAVEL_OK)
         plain = plain_text(&to);
     if (plain.bytes && copy_picture(screen, &to, rows, columns) == HUTTAVEL_OK &&
         make_all_again(screen, &to, all, rows, columns) == HUTTAVEL_OK) {
@@ -339,13 +341,13 @@ static int make_anew(WINDOW *window, int rows, int columns, bool is_over)
 {
     struct plan plan = {{0, rows}, {0, columns}};
     huttavel *handle = handle_of(window);
-    huttavel_cell background = {' ', 0, 0};
+    huttavel_cell background = {' ', 0, 0, ' '};
     uint32_t made;
 
     if (make_in_place(window, rows, columns, is_over, &made) != HUTTAVEL_OK)
         return ERR;
     huttavel_background(handle, window->number, &background);
-    huttavel_set_background(handle, made, background.byte, background.attrs, background.pair);
+    huttavel_set_background_of(handle, made, background.character, background.attrs, background.pair);
     huttavel_erase(handle, made);
     if (huttavel_copy(handle, window->number, made, 0, 0, 0, 0, (uint32_t)least(rows, window->rows) - 1,
                       (uint32_t)least(columns, window->columns) - 1, false) != HUTTAVEL_OK) {

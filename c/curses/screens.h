@@ -7,15 +7,16 @@
 #define PAIRS 256
 #define HELD_PAIRS 64
 
-/* How many characters are added before the handle is given them. */
+/* How many bytes of characters are added before the handle is given them. */
 #define ADDED 128
 
 /* How many cells of a line are read at a time for winch(), and for a call that reads all of it. */
 #define CELLS_READ 16
 #define LONGEST_READ 128
 
-/* How many keys ungetch() keeps. */
+/* How many keys ungetch() keeps, and the most bytes of a character in UTF-8. */
 #define PUSHED 64
+#define LONGEST_SEQUENCE 4
 
 /* The longest line that getch() reads whole, with its end. */
 #define LONGEST_LINE 256
@@ -107,8 +108,10 @@ struct labels {
     bool is_drawn;             /* slk_noutrefresh() was called */
     bool is_hidden;            /* slk_clear() */
     struct {
-        char text[LABEL_WIDTH + 1];
+        uint32_t codes[LABEL_WIDTH];
+        int length;
         int justify;
+        char text[LABEL_WIDTH * LONGEST_SEQUENCE + 1]; /* the same, for slk_label() */
     } all[LABELS];
 };
 
@@ -124,6 +127,12 @@ struct terminal {
     struct line line;          /* of its descriptor */
     short pair;                /* the one that vid_puts() set last */
     bool is_of_termcap;        /* only tgetent() opened it, which closes it */
+};
+
+/* Bytes of a character in UTF-8 that are not all of it yet. */
+struct unended {
+    uint8_t bytes[LONGEST_SEQUENCE];
+    size_t count;
 };
 
 /* Places of a line; none where the first is greater than the last. */
@@ -159,16 +168,19 @@ struct huttavel_curses_window {
     bool is_fresh;             /* it was copied, and the handle was asked for nothing about it since */
     bool is_marked;            /* one of the marks was set */
     bool is_whole;             /* all places of lines that are touched count as changed */
+    struct unended unended;    /* what was added of a character, */
+    struct huttavel_curses_place unended_at; /* and where: it is dropped if the cursor was moved since */
     struct places marks[LARGEST]; /* otherwise the places of each line that were changed since it was copied */
 };
 
-/* Printable characters that were added to a window side by side, before the last place of a line and with one pen, and
-   that the handle was not given yet. Their places are not marked yet, either. */
+/* Characters that cells can hold, which were added to a window side by side, before the last place of a line and with
+   one pen, and that the handle was not given yet. Their places are not marked yet, either. */
 struct added {
     WINDOW *window;
     attr_t pen;
     struct huttavel_curses_place begun;
-    size_t length, room;       /* how many there are, and may be */
+    size_t length, room;       /* how many bytes there are, and may be */
+    size_t beyond;             /* how many of the bytes are not the first of a character */
     uint8_t bytes[ADDED];
 };
 
@@ -205,7 +217,9 @@ struct huttavel_curses_screen {
     bool has_patch;
     uint32_t patch;            /* a pad of the handle of one line, by which parts of lines are copied */
     WINDOW *whole;             /* a window over the whole screen that nothing is written on, or NULL */
+    bool is_utf8;              /* the terminal is sent UTF-8, and bytes are those of characters in it */
     int rows, columns;         /* without the lines that are taken off */
+    int left_out;              /* how many columns of the terminal the screen does not have */
     int above, below;          /* how many lines are taken off the top, and the bottom */
     struct labels labels;
     int colors, pairs;         /* COLORS, COLOR_PAIRS: 0 before start_color() */
@@ -214,7 +228,7 @@ struct huttavel_curses_screen {
     bool is_echo, is_newline;  /* echo(), nl() */
     int half_delay;            /* halfdelay(), in tenths of a second; 0 without */
     int visibility;            /* curs_set() */
-    int pushed[PUSHED];        /* ungetch() */
+    int pushed[PUSHED + LONGEST_SEQUENCE]; /* ungetch(), and bytes of what is no character */
     int pushed_count;
     struct typed typed;
     struct reading reading;

@@ -165,24 +165,31 @@ int wstandend(WINDOW *window)
     return wattr_set(window, A_NORMAL, 0, NULL);
 }
 
-/* Sets a background by one of the two calls. A background without a byte is blank. */
-static int set_background(uint32_t (*set)(huttavel *, uint32_t, uint8_t, uint8_t, uint32_t), WINDOW *window,
-                          chtype background)
+/* Sets a background by one of the two calls. */
+static int set_background(uint32_t (*set)(huttavel *, uint32_t, uint32_t, uint8_t, uint32_t), WINDOW *window,
+                          struct rendered background)
 {
-    chtype character = drawn(byte_of(background) ? background : background | ' ');
+    return answer(set(handle_of(window), number_of(window), background.code, attrs_of(background.rendition),
+                      pair_of(background.rendition)));
+}
 
-    return answer(set(handle_of(window), number_of(window), byte_of(character), attrs_of(character),
-                      pair_of(character)));
+/* A background without a byte is blank. */
+static struct rendered drawn_background(const WINDOW *window, chtype background)
+{
+    return drawn(window->screen, byte_of(background) ? background : background | ' ');
 }
 
 int wbkgd(WINDOW *window, chtype background)
 {
-    return changed(window, set_background(huttavel_change_background, window, background));
+    if (!window)
+        return ERR;
+    return changed(window, set_background(huttavel_change_background_of, window, drawn_background(window, background)));
 }
 
 void wbkgdset(WINDOW *window, chtype background)
 {
-    set_background(huttavel_set_background, window, background);
+    if (window)
+        set_background(huttavel_set_background_of, window, drawn_background(window, background));
 }
 
 chtype getbkgd(WINDOW *window)

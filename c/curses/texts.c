@@ -90,20 +90,64 @@ int mvwscanw(WINDOW *window, int row, int column, const char *format, ...)
     WITH_VALUES(wmove(window, row, column) == ERR ? ERR : vw_scanw, window, format);
 }
 
-/* Takes the last byte of a typed line away, and what is shown of it. */
-static int drop_last(WINDOW *window, const char *line, int length, int row, int column, bool is_shown_too)
+/* How much of a line is read: so many bytes, and so many characters. */
+struct limit {
+    size_t bytes, characters;
+};
+
+/* Whether a byte is one of a character in UTF-8, but not the first. */
+static bool continues(const WINDOW *window, int byte)
 {
-    int n;
+    return window->screen->is_utf8 && goes_on((uint8_t)byte);
+}
+
+/* The length of a line without its last character. */
+static size_t length_before(const WINDOW *window, const char *line, size_t length)
+{
+    do
+        length--;
+    while (length > 0 && continues(window, line[length]));
+    return length;
+}
+
+/* The length of a line without what was begun of a character at its end. */
+static size_t length_of_whole(const WINDOW *window, const char *line, size_t length)
+{
+    size_t before = length > 0 ? length_before(window, line, length) : 0;
+    uint32_t code;
+
+    return window->screen->is_utf8 && before < length &&
+                   decode((const uint8_t *)line + before, length - before, &code) == 0
+               ? before
+               : length;
+}
+
+/* Whether there is room for a byte behind those of a line: it is one of a character that was begun, or of another. */
+static bool has_room(const WINDOW *window, const char *line, size_t length, struct limit limit)
+{
+    size_t characters = 0, n;
+
+    for (n = 0; n < length; n++)
+        characters += !continues(window, line[n]);
+    return length < limit.bytes &&
+           (characters < limit.characters || length_of_whole(window, line, length) < length);
+}
+
+/* Takes the last character of a typed line away, and what is shown of it. */
+static size_t drop_last(WINDOW *window, const char *line, size_t length, int row, int column, bool is_shown_too)
+{
+    size_t n;
 
     if (length == 0)
         return 0;
+    length = length_before(window, line, length);
     if (!is_shown_too)
-        return length - 1;
+        return length;
     wmove(window, row, column);
-    for (n = 0; n < length - 1; n++)
+    for (n = 0; n < length; n++)
         waddch(window, (unsigned char)line[n]);
     wclrtoeol(window);
-    return length - 1;
+    return length;
 }
 
 /* Moves the cursor to the next line: a window that scrolls does so if its last line is shown. */
@@ -121,15 +165,16 @@ static void end_line(WINDOW *window, bool may_scroll)
 }
 
 /* Reads a line with echo() off, and shows it if it was on. */
-static int read_line(WINDOW *window, char *line, int most, bool is_echoed)
+static int read_line(WINDOW *window, char *line, struct limit limit, bool is_echoed)
 {
-    int row = getcury(window), column = getcurx(window), length = 0;
+    int row = getcury(window), column = getcurx(window);
+    size_t length = 0;
 
     for (;;) {
         int key = wgetch(window);
 
         if (key == ERR || key == '\n' || key == '\r' || key == KEY_ENTER || key == KEY_DOWN || key == KEY_RESIZE) {
-            line[length] = '\0';
+            line[length_of_whole(window, line, length)] = '\0';
             end_line(window, is_echoed && key != ERR && key != KEY_RESIZE);
             return key == ERR || key == KEY_RESIZE ? key : OK;
         }
@@ -138,7 +183,7 @@ static int read_line(WINDOW *window, char *line, int most, bool is_echoed)
         } else if (key == (unsigned char)killchar()) {
             while (length > 0)
                 length = drop_last(window, line, length, row, column, is_echoed);
-        } else if (key < KEY_MIN && length < most) {
+        } else if (key < KEY_MIN && has_room(window, line, length, limit)) {
             line[length++] = (char)key;
             if (is_echoed)
                 waddch(window, (chtype)key);
@@ -150,25 +195,33 @@ static int read_line(WINDOW *window, char *line, int most, bool is_echoed)
     }
 }
 
-int wgetnstr(WINDOW *window, char *text, int most)
+/* The same, with the modes and echo() as they are. */
+static int get_line(WINDOW *window, char *line, struct limit limit)
 {
     SCREEN *screen = window ? window->screen : NULL;
     struct termios before;
     bool is_echo;
     int done;
 
-    if (!window || !text || is_shown(window))
+    if (!window || is_shown(window))
         return ERR;
     before = screen->line.program;
     is_echo = screen->is_echo;
     screen->is_echo = false;
     if (screen == current && before.c_lflag & ICANON)
         change_modes(0, ICANON, 0, 0);
-    done = read_line(window, text, most < 0 ? INT_MAX : most, is_echo);
+    done = read_line(window, line, limit, is_echo);
     if (screen == current && before.c_lflag & ICANON)
         set_program(&screen->line, &before);
     screen->is_echo = is_echo;
     return done;
+}
+
+int wgetnstr(WINDOW *window, char *text, int most)
+{
+    struct limit limit = {most < 0 ? INT_MAX : (size_t)most, INT_MAX};
+
+    return text ? get_line(window, text, limit) : ERR;
 }
 
 int wgetstr(WINDOW *window, char *text)

@@ -44,9 +44,11 @@ static void give_added(SCREEN *screen)
 
     if (added->length == 0)
         return;
-    huttavel_add_text(&screen->handle, added->window->number, added->bytes, added->length, NULL);
-    mark(added->window, added->begun.row, added->begun.column, added->begun.column + (int)added->length - 1);
-    added->length = added->room = 0;
+    (added->beyond ? huttavel_add_utf8 : huttavel_add_text)(&screen->handle, added->window->number, added->bytes,
+                                                            added->length, NULL);
+    mark(added->window, added->begun.row, added->begun.column,
+         added->begun.column + (int)(added->length - added->beyond) - 1);
+    added->length = added->room = added->beyond = 0;
 }
 
 /* The handle as handle_of() gives it, but its window has this pen. */
@@ -376,7 +378,8 @@ WINDOW *dupwin(WINDOW *window)
         return NULL;
     }
     huttavel_background(handle_of(window), window->number, &background);
-    huttavel_set_background(handle_of(copy), copy->number, background.byte, background.attrs, background.pair);
+    huttavel_set_background_of(handle_of(copy), copy->number, background.character, background.attrs,
+                               background.pair);
     wattrset(copy, (int)window->front.pen);
     huttavel_region(handle_of(window), window->number, &top, &bottom);
     huttavel_set_region(handle_of(copy), copy->number, top, bottom);

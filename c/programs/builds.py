@@ -78,7 +78,7 @@ def hide_foreign(folder, prefix):
     for place in ("", *FOREIGN_FOLDERS):
         os.makedirs(os.path.join(folder, place), exist_ok=True)
         for name in FOREIGN:
-            if place or not os.path.exists(os.path.join(ours, name)):
+            if not os.path.exists(os.path.join(ours, place, name)):
                 with open(os.path.join(folder, place, name), "w") as file:
                     file.write("#error %s of ncurses\n" % name)
 

@@ -1,17 +1,29 @@
 /* A program of random changes for `tests/moved_rows`: rows and characters that move, texts, attributes. It changes a
    picture of its own, draws it, says in a file what is to be shown, and waits for a byte: moved SEED SHOWN ARRIVED
-   RELEASED, of which the last two are FIFOs. */
-#define _POSIX_C_SOURCE 200809L
+   RELEASED, of which the last two are FIFOs. Compiled with WIDE it draws characters beyond ASCII, by the wide calls, and
+   the file is in UTF-8. */
+#define _XOPEN_SOURCE 700
+#ifdef WIDE
+#define _XOPEN_SOURCE_EXTENDED
+#endif
 #include <curses.h>
 #include <fcntl.h>
+#include <locale.h>
 #include <stdlib.h>
 #include <string.h>
 #include <unistd.h>
+#include <wchar.h>
 
 #define ROWS 24
 #define COLUMNS 80
 
-static chtype picture[ROWS][COLUMNS];
+/* A place of the picture. */
+struct place {
+    wchar_t character;
+    chtype attrs;
+};
+
+static struct place picture[ROWS][COLUMNS];
 static int cursor_row, cursor_column;
 static unsigned state;
 static bool has_pairs;
@@ -37,6 +49,25 @@ static chtype attributes(void)
     return has_pairs && is_one_of(6) ? attrs | (chtype)COLOR_PAIR(pair) : attrs;
 }
 
+/* A letter; with WIDE one of Latin, Greek or Cyrillic, a line, a block or a pattern of dots as often. */
+static wchar_t letter(void)
+{
+#ifdef WIDE
+    static const wchar_t latin[] = L"äéîõùçñøåžșğ";
+
+    switch (below(12)) {
+    case 0: return latin[below(12)];
+    case 1: return L'\u03b1' + below(24);
+    case 2: return L'\u0430' + below(32);
+    case 3: return L'\u2500' + below(128);
+    case 4: return L'\u2580' + below(32);
+    case 5: return L'\u2801' + below(255);
+    default: break;
+    }
+#endif
+    return L'a' + below(26);
+}
+
 /* Writes words from a place on, at most so many columns. */
 static void write_words(int row, int column, int columns)
 {
@@ -44,7 +75,8 @@ static void write_words(int row, int column, int columns)
     int end = column + columns < COLUMNS ? column + columns : COLUMNS;
 
     for (; column < end; column++) {
-        picture[row][column] = (is_one_of(6) ? ' ' : (chtype)('a' + below(26))) | attrs;
+        picture[row][column].character = is_one_of(6) ? L' ' : letter();
+        picture[row][column].attrs = attrs;
         if (is_one_of(12))
             attrs = attributes();
     }
@@ -52,8 +84,10 @@ static void write_words(int row, int column, int columns)
 
 static void clear_places(int row, int column, int end)
 {
-    for (; column < end; column++)
-        picture[row][column] = ' ';
+    for (; column < end; column++) {
+        picture[row][column].character = L' ';
+        picture[row][column].attrs = A_NORMAL;
+    }
 }
 
 /* A row that comes in: blank, or of words. */
@@ -114,7 +148,7 @@ static void restyle(void)
     chtype attrs = attributes();
 
     for (; column < end; column++)
-        picture[row][column] = (picture[row][column] & A_CHARTEXT) | attrs;
+        picture[row][column].attrs = attrs;
 }
 
 static void change(void)
@@ -138,13 +172,26 @@ static void change(void)
     }
 }
 
+static void draw_place(int row, int column, const struct place *place)
+{
+#ifdef WIDE
+    wchar_t text[2] = {place->character, L'\0'};
+    cchar_t cell;
+
+    setcchar(&cell, text, (attr_t)(place->attrs & A_ATTRIBUTES & ~A_COLOR), (short)PAIR_NUMBER(place->attrs), NULL);
+    mvadd_wch(row, column, &cell);
+#else
+    mvaddch(row, column, (chtype)place->character | place->attrs);
+#endif
+}
+
 static void draw(void)
 {
     int row, column;
 
     for (row = 0; row < ROWS; row++)
         for (column = 0; column < COLUMNS; column++)
-            mvaddch(row, column, picture[row][column]);
+            draw_place(row, column, &picture[row][column]);
     cursor_row = below(ROWS);
     cursor_column = below(COLUMNS);
     move(cursor_row, cursor_column);
@@ -152,9 +199,9 @@ static void draw(void)
 }
 
 /* The letter of a place's attributes: A, and 1 letter on for bold, 2 for underlined, 4 for reverse. */
-static int letter_of(chtype cell)
+static int letter_of(chtype attrs)
 {
-    return 'A' + ((cell & A_BOLD) ? 1 : 0) + ((cell & A_UNDERLINE) ? 2 : 0) + ((cell & A_REVERSE) ? 4 : 0);
+    return 'A' + ((attrs & A_BOLD) ? 1 : 0) + ((attrs & A_UNDERLINE) ? 2 : 0) + ((attrs & A_REVERSE) ? 4 : 0);
 }
 
 /* Says what is to be shown: of each row the characters, the letters of their attributes, and the digits of their pairs;
@@ -168,18 +215,37 @@ static bool tell(const char *path)
         return false;
     for (row = 0; row < ROWS; row++) {
         for (column = 0; column < COLUMNS; column++)
-            fputc((int)(picture[row][column] & A_CHARTEXT), file);
+            fprintf(file, "%lc", (wint_t)picture[row][column].character);
         fputc('\n', file);
         for (column = 0; column < COLUMNS; column++)
-            fputc(letter_of(picture[row][column]), file);
+            fputc(letter_of(picture[row][column].attrs), file);
         fputc('\n', file);
         for (column = 0; column < COLUMNS; column++)
-            fputc('0' + (int)PAIR_NUMBER(picture[row][column]), file);
+            fputc('0' + (int)PAIR_NUMBER(picture[row][column].attrs), file);
         fputc('\n', file);
     }
     fprintf(file, "%d %d\n", cursor_row, cursor_column);
     return fclose(file) == 0;
 }
+
+#ifdef WIDE
+/* Every line, and the letters and signs of Latin-1 but the soft hyphen, which the first update shows. */
+static void fill_with_all(void)
+{
+    int place = 0;
+    wchar_t code;
+
+    for (code = L'\u00a1'; code <= L'\u257f'; code++) {
+        if (code == L'\u0100')
+            code = L'\u2500';
+        if (code == L'\u00ad')
+            continue;
+        picture[place / COLUMNS][place % COLUMNS].character = code;
+        picture[place / COLUMNS][place % COLUMNS].attrs = A_NORMAL;
+        place++;
+    }
+}
+#endif
 
 /* The screen, with pairs of each colour on black. */
 static void begin(void)
@@ -187,6 +253,10 @@ static void begin(void)
     short color;
     int row;
 
+#ifdef WIDE
+    if (!setlocale(LC_ALL, "C.UTF-8"))
+        exit(1);
+#endif
     initscr();
     cbreak();
     noecho();
@@ -203,6 +273,9 @@ static void begin(void)
     }
     for (row = 0; row < ROWS; row++)
         renew(row);
+#ifdef WIDE
+    fill_with_all();
+#endif
 }
 
 int main(int argc, char **argv)

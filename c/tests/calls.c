@@ -136,7 +136,15 @@ static void entries(void)
         IS(HUTTAVEL_OK, huttavel_close(&handle));
         IS(HUTTAVEL_TRUNCATED, huttavel_open(&handle, file, length - 1, 0, 0, &which));
         length = compiled(file, wide, margin, 5, numbers, 3, strings, 11);
-        IS(HUTTAVEL_AUTO_MARGIN, huttavel_open(&handle, file, length, 0, 0, NULL));
+        IS(HUTTAVEL_OK, huttavel_open(&handle, file, length, 0, 0, NULL));
+        IS(HUTTAVEL_OK, huttavel_screen_size(&handle, &rows, &columns));
+        CHECK(rows == 10 && columns == 29);
+        IS(HUTTAVEL_OK, huttavel_close(&handle));
+        IS(HUTTAVEL_OK, huttavel_open(&handle, file, length, 3, 2, NULL));
+        IS(HUTTAVEL_OK, huttavel_screen_size(&handle, &rows, &columns));
+        CHECK(rows == 3 && columns == 1);
+        IS(HUTTAVEL_OK, huttavel_close(&handle));
+        IS(HUTTAVEL_NO_SIZE, huttavel_open(&handle, file, length, 3, 1, NULL));
         length = compiled(file, wide, plain, 5, none, 3, strings, 11);
         IS(HUTTAVEL_NO_SIZE, huttavel_open(&handle, file, length, 0, 0, NULL));
         length = compiled(file, wide, plain, 5, numbers, 3, no_cup, 11);
@@ -284,7 +292,7 @@ static void making(huttavel *handle)
 /* Whether a window has this in a row and a column. */
 static bool shows(huttavel *handle, uint32_t window, uint32_t row, uint32_t column, uint8_t byte, uint8_t attrs)
 {
-    huttavel_cell cell = {0, 0, 0};
+    huttavel_cell cell = {0, 0, 0, 0};
 
     return huttavel_cell_at(handle, window, row, column, &cell) == HUTTAVEL_OK && cell.byte == byte &&
            cell.attrs == attrs;
@@ -293,7 +301,7 @@ static bool shows(huttavel *handle, uint32_t window, uint32_t row, uint32_t colu
 /* Reads cells side by side, of a first row that begins with `Abcd`. */
 static void reading_cells(huttavel *handle)
 {
-    huttavel_cell cells[6] = {{0, 0, 0}};
+    huttavel_cell cells[6] = {{0, 0, 0, 0}};
     size_t count = 99;
 
     IS(HUTTAVEL_OK, huttavel_cells(handle, 0, 0, 0, cells, 5, &count));
@@ -361,7 +369,7 @@ static void resizing(huttavel *handle)
 
 static void writing(huttavel *handle)
 {
-    huttavel_cell cell = {0, 0, 0};
+    huttavel_cell cell = {0, 0, 0, 0};
     uint32_t row = 9, column = 9, pair = 9;
     uint8_t attrs = 0;
     bool stayed = true, on = false;
@@ -433,7 +441,7 @@ static void writing(huttavel *handle)
 static void touching(huttavel *handle)
 {
     bool touched = true;
-    huttavel_cell cell = {0, 0, 0};
+    huttavel_cell cell = {0, 0, 0, 0};
 
     IS(HUTTAVEL_OK, huttavel_untouch(handle, 0));
     IS(HUTTAVEL_OK, huttavel_window_touched(handle, 0, &touched));
@@ -459,7 +467,7 @@ static void touching(huttavel *handle)
 static void sending(huttavel *handle)
 {
     static uint8_t bytes[20000];
-    huttavel_cell cell = {0, 0, 0};
+    huttavel_cell cell = {0, 0, 0, 0};
     uint32_t row = 9, column = 9;
     uint8_t attrs = 0;
     bool colours = false;

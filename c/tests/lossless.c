@@ -65,6 +65,8 @@ static bool draw(huttavel *handle, terminal *to)
     DO(huttavel_change_background(handle, window, '.', HUTTAVEL_DIM, 5));
     DO(huttavel_add_text(handle, 0, (const uint8_t *)"the first window\n\tand a tab", 27, NULL));
     DO(huttavel_add_text(handle, sub, (const uint8_t *)"below", 5, NULL));
+    /* Only a text that is not well formed takes memory. */
+    DO(huttavel_add_utf8(handle, sub, (const uint8_t *)"\xc3\xa9\xff", 3, NULL));
     DO(huttavel_add_text(handle, pad, (const uint8_t *)"on a pad", 8, NULL));
     DO(huttavel_copy(handle, pad, window, 0, 0, 3, 0, 3, 7, false));
     DO(huttavel_noutrefresh(handle, 0));

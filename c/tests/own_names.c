@@ -8,6 +8,7 @@ static int cleared;
 void clear(void);
 void winch(int signal);
 int wmove(int by);
+int add_wch(int by);
 
 void clear(void)
 {
@@ -24,6 +25,11 @@ int wmove(int by)
     return cleared += by;
 }
 
+int add_wch(int by)
+{
+    return cleared += by;
+}
+
 int main(void)
 {
     int was_opened = tgetent(NULL, "xterm");
@@ -34,7 +40,7 @@ int main(void)
     }
     clear();
     winch(2);
-    if (wmove(3) != 6) {
+    if (wmove(3) != 6 || add_wch(4) != 10) {
         puts("not the program's own functions");
         return 1;
     }

@@ -49,6 +49,14 @@ static uint8_t byte(void)
     return (uint8_t)(any(8) == 0 ? any(256) : 32 + any(95));
 }
 
+/* A code: often of a character that a cell holds, now and then of none. */
+static uint32_t code(void)
+{
+    static const uint32_t ends[6] = {0, 0xd800, 0x10ffff, 0x110000, UINT32_MAX, 0x301};
+
+    return any(8) == 0 ? ends[any(6)] : any(4) == 0 ? any(0x20000) : 0x2500 + any(128);
+}
+
 static const uint8_t *piece(size_t *count)
 {
     *count = any(40) == 0 ? SIZE_MAX - any(3) : any(40);
@@ -65,9 +73,13 @@ static uint32_t open_any(huttavel *of)
     size_t count;
     const uint8_t *entry = piece(&count);
 
+    huttavel_opening opening = {1 + any(12), 1 + any(40), any(9) == 0 ? number() : any(2)};
+
     if (any(3) == 0)
         return huttavel_open(of, entry, count, number(), number(), any(2) == 0 ? NULL : &which);
-    return huttavel_open_bundled(of, 1 + any(12), 1 + any(40));
+    if (any(9) == 0)
+        return huttavel_open_as(of, entry, count, any(2) == 0 ? NULL : &opening, any(2) == 0 ? NULL : &which);
+    return any(9) == 0 ? huttavel_open_bundled(of, 1 + any(12), 1 + any(40)) : huttavel_open_bundled_as(of, &opening);
 }
 
 static uint32_t make(huttavel *of)
@@ -92,8 +104,11 @@ static uint32_t write_any(huttavel *of)
     bool stayed, *result = any(4) == 0 ? NULL : &stayed;
     size_t count;
     const uint8_t *text = piece(&count);
+    uint32_t border[8];
 
-    switch (any(14)) {
+    for (size_t i = 0; i < 8; i++)
+        border[i] = any(30) == 0 ? code() : 0x2500 + any(128);
+    switch (any(22)) {
     case 0: return huttavel_add_byte(of, window(), byte(), byte(), result);
     case 1: return huttavel_add_text(of, window(), text, count, result);
     case 2: return huttavel_insert_byte(of, window(), byte(), byte());
@@ -107,6 +122,14 @@ static uint32_t write_any(huttavel *of)
     case 10: return huttavel_delete_byte(of, window());
     case 11: return huttavel_insert_delete_lines(of, window(), (int32_t)number());
     case 12: return huttavel_scroll(of, window(), (int32_t)number());
+    case 13: return huttavel_add_utf8(of, window(), text, count, result);
+    case 14: return huttavel_add_character(of, window(), code(), byte(), result);
+    case 15: return huttavel_insert_character(of, window(), code(), byte());
+    case 16: return huttavel_line_across_of(of, window(), code(), number());
+    case 17: return huttavel_line_down_of(of, window(), code(), number());
+    case 18: return huttavel_border_of(of, window(), any(9) == 0 ? NULL : border);
+    case 19: return huttavel_change_background_of(of, window(), code(), byte(), number());
+    case 20: return huttavel_set_background_of(of, window(), code(), byte(), number());
     default: return huttavel_change_background(of, window(), byte(), byte(), number());
     }
 }

@@ -1,4 +1,5 @@
-/* A small terminal for tests: it reads the control functions of ECMA-48 that the bundled entry has, and shows cells. */
+/* A small terminal for tests: it reads the control functions of ECMA-48 that the bundled entry has, and characters in
+ * ASCII or in UTF-8, and shows cells. */
 #ifndef HUTTAVEL_TESTS_TERMINAL_H
 #define HUTTAVEL_TESTS_TERMINAL_H
 
@@ -8,9 +9,10 @@
 
 enum { ROWS = 9, COLUMNS = 30 };
 
-/* What a place shows: a byte, attributes as in enum huttavel_attr but without standout, and colours, -1 for its own. */
+/* What a place shows: a character, attributes as in enum huttavel_attr but without standout, and colours, -1 for its
+   own. */
 typedef struct look {
-    uint8_t byte;
+    uint32_t character;
     uint8_t attrs;
     int foreground;
     int background;
@@ -25,6 +27,10 @@ typedef struct terminal {
     int reading;
     int parameters[8];
     int count;
+    /* It reads UTF-8: what it has read of a character, and how many bytes of it are still to come. */
+    bool is_utf8;
+    uint32_t begun;
+    int to_come;
     /* A byte came that this terminal does not know. */
     bool is_lost;
 } terminal;
@@ -37,7 +43,7 @@ static void terminal_begin(terminal *of, uint8_t byte)
     memset(of, 0, sizeof *of);
     for (int i = 0; i < ROWS * COLUMNS; i++) {
         of->places[i / COLUMNS][i % COLUMNS] = blank;
-        of->places[i / COLUMNS][i % COLUMNS].byte = byte;
+        of->places[i / COLUMNS][i % COLUMNS].character = byte;
     }
     of->pen = blank;
 }
@@ -99,8 +105,44 @@ static void control(terminal *of, uint8_t final)
     of->reading = 0;
 }
 
+/* A character is shown, and the cursor moves. */
+static void show_character(terminal *of, uint32_t character)
+{
+    if (of->column >= COLUMNS) {
+        of->is_lost = true;
+        return;
+    }
+    of->places[of->row][of->column] = of->pen;
+    of->places[of->row][of->column].character = character;
+    of->column++;
+}
+
+/* A byte from 128 on: the first of a character of two or three, or one of the others. */
+static void read_part(terminal *of, uint8_t byte)
+{
+    bool goes_on = (byte & 0xc0) == 0x80;
+
+    if (!of->is_utf8 || goes_on != (of->to_come > 0) || byte >= 0xf0) {
+        of->is_lost = true;
+        return;
+    }
+    if (goes_on) {
+        of->begun = of->begun << 6 | (byte & 0x3f);
+        of->to_come--;
+    } else {
+        of->to_come = byte < 0xe0 ? 1 : 2;
+        of->begun = byte & (0x7fu >> (of->to_come + 1));
+    }
+    if (of->to_come == 0 && of->begun >= 160)
+        show_character(of, of->begun);
+    else if (of->to_come == 0)
+        of->is_lost = true;
+}
+
 static void read_byte(terminal *of, uint8_t byte)
 {
+    if (byte < 128 && of->to_come > 0)
+        of->is_lost = true;
     if (of->reading == 1) {
         of->is_lost |= byte != '[';
         of->reading = 2;
@@ -118,10 +160,10 @@ static void read_byte(terminal *of, uint8_t byte)
         of->column = 0;
     } else if (byte == '\b') {
         of->column = at_most(of->column - 1, COLUMNS - 1);
-    } else if (byte >= 32 && byte < 127 && of->column < COLUMNS) {
-        of->places[of->row][of->column] = of->pen;
-        of->places[of->row][of->column].byte = byte;
-        of->column++;
+    } else if (byte >= 32 && byte < 127) {
+        show_character(of, byte);
+    } else if (byte >= 128) {
+        read_part(of, byte);
     } else {
         of->is_lost = true;
     }
@@ -142,7 +184,7 @@ static bool terminal_shows(const terminal *of, huttavel *handle)
         return false;
     for (uint32_t i = 0; i < ROWS * COLUMNS; i++) {
         const look *seen = &of->places[i / COLUMNS][i % COLUMNS];
-        huttavel_cell cell = {0, 0, 0};
+        huttavel_cell cell = {0, 0, 0, 0};
         uint32_t foreground = UINT32_MAX, background = UINT32_MAX;
         uint8_t attrs;
 
@@ -152,8 +194,8 @@ static bool terminal_shows(const terminal *of, huttavel *handle)
         attrs = cell.attrs & 127;
         if (attrs & HUTTAVEL_STANDOUT)
             attrs = (attrs & ~HUTTAVEL_STANDOUT) | HUTTAVEL_REVERSE;
-        if (seen->byte != cell.byte || seen->attrs != attrs || seen->foreground != (int)foreground
-            || seen->background != (int)background)
+        if (seen->character != (of->is_utf8 ? cell.character : cell.byte) || seen->attrs != attrs
+            || seen->foreground != (int)foreground || seen->background != (int)background)
             return false;
     }
     return huttavel_wanted_cursor(handle, &row, &column) != HUTTAVEL_OK

@@ -1,2 +1,5 @@
+mod CharacterLaws
 mod LentLaws
 mod Shapes
+mod TextLaws
+mod WindowLaws

@@ -1,7 +1,7 @@
--- Cells that C gives by three numbers.
+-- Cells and characters that C gives by numbers.
 use Rattle.std.specs.Prelude.{ℕ, Bool, Result, Ok, Err, nat_le, if◌then◌else◌}
 use Rattle.scr_cells.specs.CellViews.{CellView}
-use Rattle.scr_cells.specs.Characters.{is_ascii}
+use Rattle.scr_cells.specs.Characters.{is_ascii, is_character}
 use Rattle.scr_windows.specs.Calls.Settings.{change_background_call, set_background_call}
 use Rattle.scr_windows.specs.DeskViews.{DeskView}
 use Rattle.scr_windows.specs.declared.faults.WinFault.{WinFault}
@@ -12,6 +12,12 @@ abbrev pub cell_given : ℕ → ℕ → ℕ → Result CellView ℕ
 cell_given byte attrs pair =
     if is_ascii byte then (if nat_le pair 63 then Ok (record { character = byte; attrs = attrs; pair = pair }) else Err 23)
     else Err 15
+
+-- The same of a character.
+abbrev pub character_cell_given : ℕ → ℕ → ℕ → Result CellView ℕ
+character_cell_given code attrs pair =
+    if is_character code then (if nat_le pair 63 then Ok (record { character = code; attrs = attrs; pair = pair }) else Err 23)
+    else Err 27
 
 -- A background is changed, or set.
 abbrev pub background_call : Bool → DeskView → ℕ → CellView → DeskView × Result (Unit {0}) WinFault

@@ -1,4 +1,5 @@
 pub mod Asking
+pub mod Characters
 pub mod Copying
 pub mod Entries
 pub mod Families
@@ -12,3 +13,4 @@ pub mod Pressing
 pub mod Replies
 pub mod Sending
 pub mod Showing
+pub mod Texts

@@ -1,5 +1,7 @@
 -- Opening and closing a handle.
-use Rattle.std.specs.Prelude.{ℕ, ◌≡◌, ◌⊎◌, [], List, Option, Some, None, MatchOption}
+use Rattle.std.specs.Prelude.{ℕ, ◌≡◌, ◌⊎◌, ◌==◌, [], List, Option, Some, None, MatchOption, if◌then◌else◌}
+use Rattle.scr_cells.specs.declared.charsets.Charset.{Charset}
+use Rattle.scr_cells.specs.declared.charsets.Charset.TheVariants.{Ascii, Utf8}
 use Rattle.scr_cells.specs.declared.sizes.Size.{Size}
 use Rattle.scr_term.specs.Operations.Admission.{IsSuitable}
 use Rattle.scr_term.specs.declared.operations.profile_faults.ProfileFault.{ProfileFault}
@@ -11,7 +13,7 @@ use Rattle.ti_caps.specs.declared.table.Kind.{Kind}
 use Rattle.ti_caps.specs.declared.table.Kind.TheVariants.{Flag, Number, Text}
 use Rattle.ti_caps.specs.declared.table.Slot.{Slot}
 use Rattle.ti_database.specs.Search.{IsEntry, entry_refusal}
-use Rattle.curses.specs.Opening.{IsOpened, IsUnopened}
+use Rattle.curses.specs.Adapted.{IsOpenedAdapted, IsUnopenedAdapted, adapted}
 use Rattle.curses.specs.declared.faults.OpenFault.{OpenFault}
 use Rattle.curses.specs.declared.faults.OpenFault.TheVariants.{KeyTooLong, NoMemory, Profile}
 use Rattle.huttavel_c.specs.Numbers.{binary_number}
@@ -49,6 +51,10 @@ open_reply (Profile fault) = profile_reply fault
 open_reply (KeyTooLong slot) = about 57 (Text, slot)
 open_reply NoMemory = refused 4
 
+-- The charset that a number is given for.
+abbrev pub charset_given : ℕ → Option Charset
+charset_given number = if number == 0 then Some Ascii else if number == 1 then Some Utf8 else None
+
 -- The size that is given: 0 rows and 0 columns stand for the entry's own.
 abbrev pub IsSizeGiven : ℕ → ℕ → Option Size → Type 0
 IsSizeGiven rows columns None = (rows ≡ 0) × (columns ≡ 0)
@@ -71,21 +77,24 @@ IsNoEntry bytes reply =
 abbrev pub fresh_writer : WriterView
 fresh_writer = record { taken = Some []; failed_puts = 0; failed_finishes = 0 }
 
--- A screen just opened on the terminal of an entry.
-abbrev pub IsOpenedOn : Description → Option Size → Session → Type 0
-IsOpenedOn entry size session = IsOpened entry size session.screen × (writer session ≡ fresh_writer)
+-- A screen just opened on a terminal of this size, which is sent characters of this charset, on its entry as programs
+-- take it.
+abbrev pub IsOpenedOn : Charset → Description → Option Size → Session → Type 0
+IsOpenedOn charset entry size session =
+    IsOpenedAdapted (record { charset = charset }) (adapted entry) size session.screen × (writer session ≡ fresh_writer)
 
--- None was opened. Memory runs out only for an entry that is neither Unsuitable nor AutoMargin.
+-- None was opened. Memory runs out only for an entry that is not Unsuitable.
 abbrev pub IsUnopenedOn : Description → Option Size → Reply → Type 0
-IsUnopenedOn entry size reply = (fault : OpenFault) × IsUnopened entry size fault × (fault ≡ NoMemory → IsSuitable entry) × (reply ≡ open_reply fault)
+IsUnopenedOn entry size reply =
+    (fault : OpenFault) × IsUnopenedAdapted (adapted entry) size fault × (fault ≡ NoMemory → IsSuitable (adapted entry).entry) × (reply ≡ open_reply fault)
 
 -- A screen just opened on the terminal of an entry that is known so, of the size that is given.
-pub record IsOpenedFrom (IsKnown : Description → Type 0) (rows columns : ℕ) (session : Session) : Type 0 where
+pub record IsOpenedFrom (IsKnown : Description → Type 0) (charset : Charset) (rows columns : ℕ) (session : Session) : Type 0 where
   pub entry : Description
   pub size : Option Size
   pub known : IsKnown entry
   pub given : IsSizeGiven rows columns size
-  pub opened : IsOpenedOn entry size session
+  pub opened : IsOpenedOn charset entry size session
 
 -- No screen of that size can be opened on the entry.
 pub record IsUnopenedFrom (IsKnown : Description → Type 0) (rows columns : ℕ) (reply : Reply) : Type 0 where
@@ -112,6 +121,11 @@ IsNoEntryOrMemory bytes reply = IsNoEntry bytes reply ⊎ ((entry : Description)
 abbrev pub Opens : (Kept → Type 0) → (Reply → Type 0) → Option Kept → Option Kept → Reply → Type 0
 Opens IsMade IsNotMade (Some old) new reply = (new ≡ Some old) × (reply ≡ refused 2)
 Opens IsMade IsNotMade None new reply = MatchOption new (IsNotMade reply) (λ kept. IsMade kept × (reply ≡ refused 0))
+
+-- The same with the charset of a number. A number of no charset is refused, and the handle stays closed.
+abbrev pub OpensAs : (Charset → Kept → Type 0) → (Reply → Type 0) → ℕ → Option Kept → Option Kept → Reply → Type 0
+OpensAs IsMade IsNotMade number old new reply =
+    MatchOption (charset_given number) (Opens (λ kept. ⊥) (λ given. given ≡ refused 5) old new reply) (λ charset. Opens (IsMade charset) IsNotMade old new reply)
 
 -- The number that closing gives.
 abbrev pub close_number : Option Kept → ℕ

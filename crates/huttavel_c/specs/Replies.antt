@@ -1,5 +1,5 @@
 -- What the functions of the C library give for the answers of a screen's calls.
-use Rattle.std.specs.Prelude.{ℕ, Bool, true, false, Result, Ok, Err}
+use Rattle.std.specs.Prelude.{ℕ, ◌+◌, ◌*◌, Bool, true, false, Result, Ok, Err}
 use Rattle.scr_cells.specs.CellViews.{CellView}
 use Rattle.scr_cells.specs.Characters.{stand_in}
 use Rattle.scr_windows.specs.declared.faults.Added.{Added}
@@ -19,9 +19,9 @@ refused fault = record { fault = fault; first = 0; second = 0; third = 0 }
 abbrev pub no_length : ℕ → Length
 no_length fault = record { fault = fault; count = 0 }
 
--- A cell, as C has it: by the byte that is shown for its character.
+-- A cell, as C has it: also by the byte that is shown for its character where there is ASCII alone.
 abbrev pub given_cell : CellView → GivenCell
-given_cell cell = record { byte = stand_in cell.character; attrs = cell.attrs; pair = cell.pair }
+given_cell cell = record { byte = stand_in cell.character; attrs = cell.attrs; pair = cell.pair; character = cell.character }
 
 -- One number.
 abbrev pub with_one : ℕ → Reply
@@ -31,9 +31,10 @@ with_one first = record { fault = 0; first = first; second = 0; third = 0 }
 abbrev pub with_two : ℕ × ℕ → Reply
 with_two pair = record { fault = 0; first = pair.0; second = pair.1; third = 0 }
 
--- A cell: the byte that is shown for its character, its attributes and its colour pair.
+-- A cell: its character, the byte that is shown for it where there is ASCII alone, and its colour pair before its
+-- attributes.
 abbrev pub with_cell : CellView → Reply
-with_cell cell = record { fault = 0; first = stand_in cell.character; second = cell.attrs; third = cell.pair }
+with_cell cell = record { fault = 0; first = cell.character; second = stand_in cell.character; third = cell.pair * 256 + cell.attrs }
 
 -- A truth value as a number.
 abbrev pub as_number : Bool → ℕ

@@ -27,12 +27,14 @@ pub struct Reply {
 #[repr(C)]
 #[derive(Clone, Copy)]
 pub struct GivenCell {
-    /// The byte.
+    /// The byte that is shown for its character where there is ASCII alone.
     pub byte: u8,
     /// The attributes.
     pub attrs: u8,
     /// The colour pair.
     pub pair: u8,
+    /// The code of the character.
+    pub character: u32,
 }
 
 /// An error's number, and how many bytes a text has, or how many cells were copied.
@@ -88,15 +90,15 @@ pub(crate) fn two(pair: (u32, u32)) -> Reply
     }
 }
 
-/// The byte, the attributes and the pair of a cell.
+/// The character of a cell, its byte, and its pair before its attributes.
 pub(crate) fn three(cell: Cell) -> Reply
     ensures { result ≡ with_cell cell }
 {
     Reply {
         fault: 0,
-        first: u32::from(cell.byte()),
-        second: u32::from(cell.attrs().0),
-        third: cell.pair(),
+        first: cell.code(),
+        second: u32::from(cell.byte()),
+        third: cell.pair() * 256 + u32::from(cell.attrs().0),
     }
 }
 
@@ -108,6 +110,7 @@ pub(crate) fn given(cell: Cell) -> GivenCell
         byte: cell.byte(),
         attrs: cell.attrs().0,
         pair: cell.pair() as u8,
+        character: cell.code(),
     }
 }
 

@@ -13,6 +13,8 @@ pub(crate) const CLOSED: u32 = 1;
 pub(crate) const IS_OPEN: u32 = 2;
 /// Memory ran out.
 pub(crate) const NO_MEMORY: u32 = 4;
+/// A number that no charset has.
+pub(crate) const BAD_CHARSET: u32 = 5;
 /// No window is at this index.
 pub(crate) const NO_WINDOW: u32 = 10;
 /// A byte that no cell has.
@@ -25,6 +27,8 @@ pub(crate) const BAD_PAIR: u32 = 23;
 pub(crate) const NO_PARENT: u32 = 25;
 /// The cursor is wanted nowhere in particular.
 pub(crate) const NO_CURSOR: u32 = 26;
+/// A character that does not take one column.
+pub(crate) const NOT_ONE_COLUMN: u32 = 27;
 /// No key is queued.
 pub(crate) const NO_KEY: u32 = 31;
 /// Fewer bytes wait.
@@ -59,7 +63,7 @@ pub(crate) fn window_number(fault: WinFault) -> u32
         WinFault::NoMemory => NO_MEMORY,
         WinFault::BadPair => BAD_PAIR,
         WinFault::BadColour => 24,
-        WinFault::NotOneColumn => 27,
+        WinFault::NotOneColumn => NOT_ONE_COLUMN,
     }
 }
 

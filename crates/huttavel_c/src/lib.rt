@@ -16,5 +16,6 @@ mod sending;
 mod sessions;
 
 pub use answers::{GivenCell, Length, Reply};
+pub use calls::Border;
 pub use entries::Numbers;
 pub use handles::Handle;

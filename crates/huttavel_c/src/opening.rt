@@ -1,19 +1,24 @@
 //! Opening and closing.
-ghost use Rattle.std.specs.Prelude.{◌≡◌, IfErr, IfOk, None, Some};
+ghost use Rattle.std.specs.Prelude.{◌≡◌, IfErr, IfOk, IsErrOf, None, Some};
+ghost use Rattle.curses.specs.Adapted.{IsOpenedAdapted, IsUnopenedAdapted, adapted};
+ghost use Rattle.scr_term.specs.Operations.Admission.{IsSuitable};
 ghost use Rattle.ti_caps.specs.Bundled.{IsBundled};
 ghost use Rattle.ti_database.specs.Search.{IsEntry};
 ghost use Rattle.huttavel_c.specs.Asking.{OfScreen};
-ghost use Rattle.huttavel_c.specs.Opening.{IsClosedFrom, IsNoEntry, IsNoMemory, IsNoSize, IsOpenedFrom, IsOpenedOn, IsSizeGiven, IsUnopenedOn, Opens, about, close_number, fresh_writer, kind_number, open_reply, profile_reply};
+ghost use Rattle.huttavel_c.specs.Opening.{IsClosedFrom, IsNoEntry, IsNoMemory, IsNoSize, IsOpenedFrom, IsOpenedOn, IsSizeGiven, IsUnopenedOn, OpensAs, about, charset_given, close_number, fresh_writer, kind_number, open_reply, profile_reply};
 ghost use Rattle.huttavel_c.specs.Replies.{refused};
 ghost use Rattle.huttavel_c.specs.Sending.{writer};
 
 use crate::answers::{Reply, refused};
 use crate::faults::{
-    BAD_SIZE, CLOSED, IS_OPEN, KEY_TOO_LONG, NO_MEMORY, binary_number, profile_number,
+    BAD_CHARSET, BAD_SIZE, CLOSED, IS_OPEN, KEY_TOO_LONG, NO_MEMORY, binary_number, profile_number,
 };
 use crate::handles::Handle;
 use crate::sessions::{Kept, Session};
-use curses::{Device, Entry, Kind, OpenFault, ProfileFault, Screen, Size, Slot, bundled};
+use curses::{
+    AdaptedEntry, Charset, Device, Entry, Kind, OpenFault, Opening, ProfileFault, Screen, Size,
+    Slot, bundled,
+};
 use std::alloc::Global;
 use ti_database::read_entry;
 
@@ -28,6 +33,17 @@ fn size_given(rows: u32, columns: u32) -> Result<Option<Size>, Reply>
     match Size::new(rows, columns) {
         Some(size) => Ok(Some(size)),
         None => Err(refused(BAD_SIZE)),
+    }
+}
+
+// The charset that a number is given for.
+fn charset_given(number: u32) -> Option<Charset>
+    ensures { result ≡ charset_given number }
+{
+    match number {
+        0 => Some(Charset::Ascii),
+        1 => Some(Charset::Utf8),
+        _ => None,
     }
 }
 
@@ -123,35 +139,67 @@ fn session_on(alloc: Global, screen: Screen) -> Session
     }
 }
 
-// A session on the terminal of an entry.
-fn opened_on(alloc: Global, entry: &Entry, size: Option<Size>) -> Result<Box<Kept>, Reply>
-    ensures ok { IfOk result (λ kept. OfScreen (IsOpenedOn entry.now size) kept.value) }
-    ensures err { IfErr result (IsUnopenedOn entry.now size) }
+// A screen on the terminal of an entry, as programs take it.
+fn screen_on(
+    alloc: Global,
+    entry: Entry,
+    charset: Charset,
+    size: Option<Size>,
+) -> Result<Screen, OpenFault>
+    ensures ok { IfOk result (IsOpenedAdapted (record { charset = charset }) (adapted entry) size) }
+    ensures err { IfErr result (IsUnopenedAdapted (adapted entry) size) }
+    ensures suitable { IfOk result (λ _. IsSuitable (adapted entry).entry) }
+    ensures memory { IsErrOf result OpenFault.NoMemory → IsSuitable (adapted entry).entry }
 {
-    match Screen::open(alloc, entry, size) {
+    let adapted = AdaptedEntry::of(entry);
+    adapted.open(alloc, size, Opening { charset })
+}
+
+// A session on the terminal of an entry.
+fn opened_on(
+    alloc: Global,
+    entry: Entry,
+    charset: Charset,
+    size: Option<Size>,
+) -> Result<Box<Kept>, Reply>
+    ensures ok { IfOk result (λ kept. OfScreen (IsOpenedOn charset entry size) kept.value) }
+    ensures err { IfErr result (IsUnopenedOn entry size) }
+{
+    match screen_on(alloc, entry, charset, size) {
         Ok(screen) => boxed(alloc, Kept::Screen(session_on(alloc, screen))),
         Err(fault) => Err(open_reply(fault)),
     }
 }
 
 // A session on the terminal of a compiled entry.
-fn opened(alloc: Global, bytes: &[u8], rows: u32, columns: u32) -> Result<Box<Kept>, Reply>
-    ensures ok { IfOk result (λ kept. OfScreen (IsOpenedFrom (IsEntry bytes.now) rows columns) kept.value) }
+fn opened(
+    alloc: Global,
+    bytes: &[u8],
+    charset: Charset,
+    rows: u32,
+    columns: u32,
+) -> Result<Box<Kept>, Reply>
+    ensures ok { IfOk result (λ kept. OfScreen (IsOpenedFrom (IsEntry bytes.now) charset rows columns) kept.value) }
     ensures err { IfErr result (IsClosedFrom (IsEntry bytes.now) (IsNoEntry bytes.now) rows columns) }
 {
     let size = size_given(rows, columns)?;
     let entry = entry_of(alloc, bytes)?;
-    opened_on(alloc, &entry, size)
+    opened_on(alloc, entry, charset, size)
 }
 
 // A session on the terminal of the bundled entry.
-fn opened_bundled(alloc: Global, rows: u32, columns: u32) -> Result<Box<Kept>, Reply>
-    ensures ok { IfOk result (λ kept. OfScreen (IsOpenedFrom IsBundled rows columns) kept.value) }
+fn opened_bundled(
+    alloc: Global,
+    charset: Charset,
+    rows: u32,
+    columns: u32,
+) -> Result<Box<Kept>, Reply>
+    ensures ok { IfOk result (λ kept. OfScreen (IsOpenedFrom IsBundled charset rows columns) kept.value) }
     ensures err { IfErr result (IsClosedFrom IsBundled IsNoMemory rows columns) }
 {
     let size = size_given(rows, columns)?;
     let entry = bundled_entry(alloc)?;
-    opened_on(alloc, &entry, size)
+    opened_on(alloc, entry, charset, size)
 }
 
 // Puts what was opened into a closed handle.
@@ -170,40 +218,52 @@ pub(crate) fn keep(handle: &mut Handle, opened: Result<Box<Kept>, Reply>) -> Rep
 }
 
 /// Opens a screen on the terminal of a compiled entry, with 16-bit or 32-bit numbers; 0 rows and 0 columns stand for
-/// the entry's own size. Gives the error's number and, if it is about a capability, its kind, 0 for a flag, 1 for a
-/// number and 2 for a text, and its position in the table.
+/// the entry's own size. The entry is taken as `AdaptedEntry` says: colours come before the attributes that they
+/// exclude, and where a character in the last column would scroll, the screen has one column less. The terminal is sent
+/// ASCII if the charset is 0, and UTF-8 if it is 1. Gives the error's number and, if it is about a capability, its kind,
+/// 0 for a flag, 1 for a number and 2 for a text, and its position in the table.
 ///
-/// Refused: IS_OPEN; BAD_SIZE; the errors in a compiled entry; those of `Screen::open`; NO_MEMORY.
+/// Refused: IS_OPEN; BAD_CHARSET for another charset; BAD_SIZE; the errors in a compiled entry; those of
+/// `AdaptedEntry::open`; NO_MEMORY.
 #[unsafe(no_mangle)]
 pub extern "C" fn huttavel_held_open(
     alloc: Global,
     handle: &mut Handle,
     entry: &[u8],
+    charset: u32,
     rows: u32,
     columns: u32,
 ) -> Reply
-    ensures { Opens (OfScreen (IsOpenedFrom (IsEntry entry.now) rows columns)) (IsClosedFrom (IsEntry entry.now) (IsNoEntry entry.now) rows columns) handle.old.held.value handle.new.held.value result }
+    ensures { OpensAs (λ given. OfScreen (IsOpenedFrom (IsEntry entry.now) given rows columns)) (IsClosedFrom (IsEntry entry.now) (IsNoEntry entry.now) rows columns) charset handle.old.held.value handle.new.held.value result }
 {
     if handle.is_open() {
         return refused(IS_OPEN);
     }
-    keep(handle, opened(alloc, entry, rows, columns))
+    let Some(charset) = charset_given(charset) else {
+        return refused(BAD_CHARSET);
+    };
+    keep(handle, opened(alloc, entry, charset, rows, columns))
 }
 
-/// Opens a screen on the terminal of the bundled entry. Refused: IS_OPEN; BAD_SIZE; NO_MEMORY.
+/// Opens a screen on the terminal of the bundled entry, with a charset in the same way. Refused: IS_OPEN; BAD_CHARSET;
+/// BAD_SIZE; NO_MEMORY.
 #[unsafe(no_mangle)]
 pub extern "C" fn huttavel_held_open_bundled(
     alloc: Global,
     handle: &mut Handle,
+    charset: u32,
     rows: u32,
     columns: u32,
 ) -> Reply
-    ensures { Opens (OfScreen (IsOpenedFrom IsBundled rows columns)) (IsClosedFrom IsBundled IsNoMemory rows columns) handle.old.held.value handle.new.held.value result }
+    ensures { OpensAs (λ given. OfScreen (IsOpenedFrom IsBundled given rows columns)) (IsClosedFrom IsBundled IsNoMemory rows columns) charset handle.old.held.value handle.new.held.value result }
 {
     if handle.is_open() {
         return refused(IS_OPEN);
     }
-    keep(handle, opened_bundled(alloc, rows, columns))
+    let Some(charset) = charset_given(charset) else {
+        return refused(BAD_CHARSET);
+    };
+    keep(handle, opened_bundled(alloc, charset, rows, columns))
 }
 
 /// Closes a handle and frees what it held; bytes that wait are lost.

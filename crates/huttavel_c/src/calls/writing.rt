@@ -3,12 +3,14 @@ ghost use Rattle.std.specs.Prelude.{[], ◌∷◌, ◌≡◌, if◌then◌else�
 ghost use Rattle.scr_windows.specs.Calls.Adding.{add_byte_call, add_text_call, insert_byte_call, line_across_call, line_down_call};
 ghost use Rattle.scr_windows.specs.Calls.Borders.{border_call};
 ghost use Rattle.huttavel_c.specs.Asking.{Asked, on_windows};
+ghost use Rattle.huttavel_c.specs.Characters.{Answers};
 ghost use Rattle.huttavel_c.specs.Giving.{background_call, cell_given, unchanged, with_given};
 ghost use Rattle.huttavel_c.specs.Replies.{added_reply, done_number, refused};
 
 use crate::answers::{Reply, added, done, refused};
 use crate::faults::{BAD_PAIR, CLOSED, NOT_ASCII};
 use crate::handles::Handle;
+use crate::sessions::Session;
 use curses::{Attrs, Cell, Win};
 use scr_cells::is_ascii;
 
@@ -22,6 +24,19 @@ fn cell_of(byte: u8, attrs: u8, pair: u32) -> Result<Cell, u32>
     match Cell::paired(byte, Attrs(attrs), pair) {
         Some(cell) => Ok(cell),
         None => Err(BAD_PAIR),
+    }
+}
+
+impl Session {
+    // `Screen::change_background`, or `Screen::set_background`, of a cell if one is given.
+    pub(crate) fn background(&mut self, window: u32, given: Result<Cell, u32>, changes: bool) -> u32
+        ensures { Answers (λ screen. on_windows screen (with_given (background_call changes screen.desk window) screen.desk given)) unchanged self.old self.new result }
+    {
+        match (given, changes) {
+            (Ok(cell), true) => done(self.screen.change_background(Win(window), cell)),
+            (Ok(cell), false) => done(self.screen.set_background(Win(window), cell)),
+            (Err(fault), _) => fault,
+        }
     }
 }
 
@@ -133,9 +148,5 @@ pub extern "C" fn huttavel_held_background(
     ensures { Asked (λ screen. on_windows screen (with_given (background_call changes screen.desk window) screen.desk (cell_given byte attrs pair))) unchanged 1 handle.old.held.value handle.new.held.value result }
 {
     let given = cell_of(byte, attrs, pair);
-    handle.lend(CLOSED, |session| match (given, changes) {
-        (Ok(cell), true) => done(session.screen.change_background(Win(window), cell)),
-        (Ok(cell), false) => done(session.screen.set_background(Win(window), cell)),
-        (Err(fault), _) => fault,
-    })
+    handle.lend(CLOSED, |session| session.background(window, given, changes))
 }
