@@ -130,11 +130,13 @@ pub fn add_text_of(cells: &[Cell], got: &mut Buffer) {
     got.push(b'"');
 }
 
-/// Adds the bytes of looks as a text.
+/// Adds the characters of looks as a text in UTF-8.
 pub fn add_text_shown(looks: &[Look], got: &mut Buffer) {
     got.extend(b" \"");
     for look in looks {
-        write_byte(look.byte(), got);
+        for byte in look.character().encode_utf8(&mut [0; 4]).as_bytes() {
+            write_byte(*byte, got);
+        }
     }
     got.push(b'"');
 }

@@ -1,5 +1,6 @@
 //! Lines about keys, which are read from a reader by itself, or from a screen.
 
+use crate::encoded::check_texts;
 use crate::subjects::{Subjects, keep};
 use check_harness::answers::{add_number, add_word};
 use check_harness::buffers::Buffer;
@@ -44,8 +45,8 @@ impl Keyboard {
 }
 
 /// The lines `reader` and `screen`, which open a keyboard, and `beside reader` and `beside screen`, which open one
-/// beside it; `byte BYTE`, `bytes TEXT`, `idle`, and `keys`, which takes all keys that wait, or has `none`; and `typed`,
-/// which has what is typed by what arrives. Tells whether a line is one of them.
+/// beside it; `byte BYTE`, `bytes TEXT`, `idle`, and `keys`, which takes all keys that wait, or has `none`; `typed`, which
+/// has what is typed by what arrives; and `typed_texts`. Tells whether a line is one of them.
 pub fn answer_of_keys(subjects: &mut Subjects, line: &mut Line<'_>) -> Result<bool, Trouble> {
     match (line.name, &subjects.entry) {
         ("reader" | "screen", Some(entry)) => {
@@ -56,6 +57,7 @@ pub fn answer_of_keys(subjects: &mut Subjects, line: &mut Line<'_>) -> Result<bo
             open(entry, name, &mut subjects.beside, line);
         }
         ("typed", _) => add_typed(line),
+        ("typed_texts", _) => check_texts(line)?,
         _ => match &mut subjects.keyboard {
             Some(keyboard) => return Ok(answer_of_keyboard(keyboard, line)),
             None => return Ok(false),
@@ -158,7 +160,8 @@ fn arrive(reader: &mut TypedReader, words: &mut Words<'_>) -> TypedItems {
     }
 }
 
-fn add_items(items: TypedItems, got: &mut Buffer) {
+/// Adds what was typed: `Character` and its number, `Key` and its position, or `Byte` and the byte.
+pub fn add_items(items: TypedItems, got: &mut Buffer) {
     for typed in items {
         let (word, number) = match typed {
             Typed::Character(character) => ("Character", i64::from(u32::from(character))),

@@ -6,6 +6,7 @@
 mod changed;
 mod dumps;
 mod ecma_screens;
+mod encoded;
 mod entries;
 mod keys;
 mod operations;

@@ -6,14 +6,15 @@ use check_harness::buffers::Buffer;
 use check_harness::troubles::Trouble;
 use check_harness::words::Line;
 use generated_sessions::{add_defined, read_fails, writer_that};
-use screen_scripts::{DemoFault, refusals, run};
+use scr_cells::Charset;
+use screen_scripts::{DemoFault, Output, refusals, run};
 use std::io::ErrorKind;
 
-/// The lines `run TEXT`, `run_raw TEXT`, `refusals TEXT`, `run_writing N TEXT`, `run_stuck N TEXT`, `run_flushing TEXT`
-/// and `feed_run TEXT`, where the text is a script. Tells whether a line is one of them.
+/// The lines `run TEXT`, `run_raw TEXT`, `utf8_run TEXT`, `refusals TEXT`, `run_writing N TEXT`, `run_stuck N TEXT`,
+/// `run_flushing TEXT` and `feed_run TEXT`, where the text is a script. Tells whether a line is one of them.
 pub fn answer_of_script(subjects: &mut Subjects, line: &mut Line<'_>) -> Result<bool, Trouble> {
     let fails = match (line.name, line.name.strip_prefix("run")) {
-        ("run_raw" | "refusals" | "feed_run", _) => None,
+        ("run_raw" | "utf8_run" | "refusals" | "feed_run", _) => None,
         (_, Some(end)) => match read_fails(end, &mut line.words) {
             Some(fails) => fails,
             None => return Ok(false),
@@ -26,8 +27,15 @@ pub fn answer_of_script(subjects: &mut Subjects, line: &mut Line<'_>) -> Result<
         return Ok(true);
     }
     let mut out = writer_that(line.alloc, fails)?;
-    let is_raw = matches!(line.name, "run_raw" | "feed_run");
-    let ended = run(line.alloc, text.bytes(), is_raw, &mut out);
+    let output = Output {
+        charset: if line.name == "utf8_run" {
+            Charset::Utf8
+        } else {
+            Charset::Ascii
+        },
+        is_raw: matches!(line.name, "run_raw" | "feed_run"),
+    };
+    let ended = run(line.alloc, text.bytes(), output, &mut out);
     match &mut subjects.ecma {
         _ if line.name != "feed_run" => {
             add_text(out.taken(), &mut line.got);

@@ -3,6 +3,7 @@
 
 use crate::dumps::{dump_entry, dump_picture, dump_screen};
 use crate::ecma_screens::{answer_of_ecma, print_state};
+use crate::encoded::check_texts;
 use crate::entries::answer_of_entry;
 use crate::keys::{Keyboard, answer_of_keys};
 use crate::pictures::answer_of_picture;
@@ -20,7 +21,7 @@ use check_harness::troubles::Trouble;
 use check_harness::words::{Line, Words};
 use edit_text::Text;
 use generated_sessions::Recorded;
-use scr_cells::Picture;
+use scr_cells::{Charset, Picture};
 use scr_memory::Memory;
 use scr_term::Profile;
 use scr_terminal::{EcmaScreen, Terminal};
@@ -150,7 +151,8 @@ impl Subjects {
     }
 
     // The lines `terminal R C`, `memory R C`, a terminal of this size of which nothing is known, `picture R C` and
-    // `screen R C`, an emulated screen. Tells whether a line is one of them.
+    // `screen R C`, an emulated screen, or `utf8_screen R C`, one that speaks UTF-8; and `fed_texts`. Tells whether a
+    // line is one of them.
     fn make_sized(&mut self, line: &mut Line<'_>) -> Result<bool, Trouble> {
         let (alloc, words, got) = (line.alloc, &mut line.words, &mut line.got);
         match line.name {
@@ -166,6 +168,12 @@ impl Subjects {
             ),
             "picture" => keep(Picture::new(alloc, words.size()?)?, &mut self.picture, got),
             "screen" => keep(EcmaScreen::new(alloc, words.size()?)?, &mut self.ecma, got),
+            "utf8_screen" => keep(
+                EcmaScreen::new_as(alloc, words.size()?, Charset::Utf8)?,
+                &mut self.ecma,
+                got,
+            ),
+            "fed_texts" => check_texts(line)?,
             _ => return Ok(false),
         }
         Ok(true)

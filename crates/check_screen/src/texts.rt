@@ -1,11 +1,11 @@
 //! Lines about a text that is edited.
 
 use crate::subjects::{Subjects, keep};
-use check_harness::answers::{add_any, add_done, add_flag, add_made, add_name, add_text};
+use check_harness::answers::{add_any, add_done, add_flag, add_made, add_name, add_text, add_word};
 use check_harness::buffers::Buffer;
 use check_harness::troubles::Trouble;
 use check_harness::words::{Line, Words};
-use edit_text::{Place, Text};
+use edit_text::{Part, Place, Text};
 use generated_sessions::add_count;
 
 /// The lines `new` and `read TEXT`, which make a text, and those that change it or ask. Tells whether a line is one of
@@ -33,21 +33,27 @@ pub fn dump_text(text: &Text, bytes: &mut Buffer) {
     bytes.extend(&text.version().to_be_bytes());
 }
 
-// The lines `insert LINE COLUMN BYTE`, `split LINE COLUMN`, `delete LINE COLUMN`, which has `yes` or `no`, and `undo`,
-// which has a place or `none`.
+// The lines `insert LINE COLUMN BYTE`, `insert_character LINE COLUMN CODE`, `split LINE COLUMN`, `delete LINE COLUMN`,
+// which has what was deleted, and `undo`, which has a place or `none`.
 fn change(text: &mut Text, line: &mut Line<'_>) -> bool {
     let (words, got) = (&mut line.words, &mut line.got);
     match line.name {
-        "insert" => add_done(text.insert(place(words), words.byte()), got),
+        "insert" => add_done(text.insert(place(words), Part::Byte(words.byte())), got),
+        "insert_character" => {
+            let place = place(words);
+            let code = char::from_u32(words.number()).unwrap_or('\0');
+            add_done(text.insert(place, Part::Character(code)), got);
+        }
         "split" => add_done(text.split(place(words)), got),
-        "delete" => add_made(text.delete(place(words)), got, add_flag),
+        "delete" => add_made(text.delete(place(words)), got, add_part),
         "undo" => add_made(text.undo(), got, add_place),
         _ => return false,
     }
     true
 }
 
-// The lines `lines`, `line LINE`, `length LINE`, `inside LINE COLUMN`, `find LINE COLUMN TEXT`, `version` and `bytes`.
+// The lines `lines`, `line LINE`, `length LINE`, `inside LINE COLUMN`, `part LINE COLUMN`, `part_before LINE COLUMN`,
+// `part_start LINE COLUMN`, `find LINE COLUMN TEXT`, `version` and `bytes`.
 fn ask(text: &Text, line: &mut Line<'_>) -> bool {
     let (alloc, words, got) = (line.alloc, &mut line.words, &mut line.got);
     match line.name {
@@ -55,6 +61,9 @@ fn ask(text: &Text, line: &mut Line<'_>) -> bool {
         "line" => add_any(text.line(words.number() as usize), got, add_text),
         "length" => add_count(text.line_length(words.number() as usize) as u64, got),
         "inside" => add_flag(text.is_inside(place(words)), got),
+        "part" => add_part(text.part_at(place(words)), got),
+        "part_before" => add_part(text.part_before(place(words)), got),
+        "part_start" => add_place(Some(text.part_start(place(words))), got),
         "find" => {
             let from = place(words);
             let sought = line.text();
@@ -70,6 +79,18 @@ fn ask(text: &Text, line: &mut Line<'_>) -> bool {
 fn place(words: &mut Words<'_>) -> Place {
     let (line, column) = (words.number() as usize, words.number() as usize);
     Place { line, column }
+}
+
+// Adds a part, `Character` with its code or `Byte`, or `none`.
+fn add_part(part: Option<Part>, got: &mut Buffer) {
+    add_any(part, got, |part, got| {
+        let (word, number) = match part {
+            Part::Character(character) => ("Character", u32::from(character)),
+            Part::Byte(byte) => ("Byte", u32::from(byte)),
+        };
+        add_word(word, got);
+        add_count(u64::from(number), got);
+    });
 }
 
 // Adds a place, or `none`.

@@ -14,6 +14,15 @@ pub struct Emulated {
     // It reads the bytes that are sent, where these are ECMA-48, and what it shows counts then. It does not know the
     // texts that move lines and characters or repeat these: a terminal that has one of them is the other alone.
     screen: Option<EcmaScreen>,
+    // The same terminal with the column that its screen leaves out, if it leaves one out.
+    whole: Option<Whole>,
+}
+
+// A terminal of one column more than its screen has.
+#[derive(Drop)]
+struct Whole {
+    profile: Profile,
+    terminal: Terminal,
 }
 
 impl Emulated {
@@ -25,7 +34,19 @@ impl Emulated {
         } else {
             Some(EcmaScreen::new_as(alloc, profile.size(), profile.charset())?)
         };
-        Ok(Emulated { terminal, screen })
+        Ok(Emulated {
+            terminal,
+            screen,
+            whole: None,
+        })
+    }
+
+    /// Has a blank column behind those of the screen, by a profile of the same entry with one column more. No operation
+    /// may reach it.
+    pub fn add_last_column(&mut self, alloc: Global, profile: Profile) -> Result<(), NoMemory> {
+        let terminal = Terminal::new(alloc, profile.size())?;
+        self.whole = Some(Whole { profile, terminal });
+        Ok(())
     }
 
     /// Reads bytes, and tells whether they are defined. One that reads none wants none.
@@ -36,10 +57,16 @@ impl Emulated {
         }
     }
 
-    /// Executes the operations of an update and reads its bytes, and tells whether all are defined.
+    /// Executes the operations of an update and reads its bytes, and tells whether all are defined, and show the same
+    /// where the terminal has a column more.
     pub fn take(&mut self, profile: &Profile, bytes: &[u8], ops: &[Op]) -> bool {
         for op in ops {
             if !matches!(step_on(&mut self.terminal, profile, *op), Ok(true)) {
+                return false;
+            }
+            if let Some(whole) = &mut self.whole
+                && !whole.follows(&self.terminal, *op)
+            {
                 return false;
             }
         }
@@ -55,7 +82,7 @@ impl Emulated {
     pub fn row(&self, row: u32) -> &[Look] {
         match &self.screen {
             Some(screen) if row < screen.size().rows => screen.row(row),
-            None if row < self.terminal.size().rows => self.terminal.row(row),
+            None => row_of(&self.terminal, row),
             _ => &[],
         }
     }
@@ -85,6 +112,41 @@ impl Emulated {
         } else {
             wanted
         }
+    }
+}
+
+impl Whole {
+    // Executes an operation that another terminal has executed, which has the last column less, and tells whether it is
+    // defined and both show the same then, with a blank last column.
+    fn follows(&mut self, other: &Terminal, op: Op) -> bool {
+        matches!(step_on(&mut self.terminal, &self.profile, op), Ok(true))
+            && self.has_same_spot(other)
+            && (0..other.size().rows).all(|row| self.has_same_row(other, row))
+    }
+
+    // Whether the cursor is in the same place; behind the other's last column, it is in the last one here.
+    fn has_same_spot(&self, other: &Terminal) -> bool {
+        let spot = match other.spot() {
+            Spot::At(row, column) => Spot::At(row, column),
+            Spot::Margin(row) => Spot::At(row, other.size().columns),
+        };
+        self.terminal.spot() == spot
+    }
+
+    fn has_same_row(&self, other: &Terminal, row: u32) -> bool {
+        match row_of(&self.terminal, row).split_last() {
+            Some((last, looks)) => *last == Look::blank() && looks == row_of(other, row),
+            None => false,
+        }
+    }
+}
+
+// The looks of a terminal's row; none where there is no such row.
+fn row_of(terminal: &Terminal, row: u32) -> &[Look] {
+    if row < terminal.size().rows {
+        terminal.row(row)
+    } else {
+        &[]
     }
 }
 

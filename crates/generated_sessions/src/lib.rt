@@ -23,6 +23,7 @@ pub use calls::obey;
 pub use cuts::count_cuts;
 pub use emulated::{Emulated, step_on};
 pub use entries::{MOVING, change_capability, read_entry};
+pub use made_up::scalar;
 pub use plain::{is_touched, line_of};
 pub use recorded::Recorded;
 pub use repaints::{bytes_of, joined_on, scratch_on};

@@ -285,11 +285,25 @@ fn code(random: &mut Random) -> u32 {
 fn add_string(alloc: Global, random: &mut Random, made: &mut Buffer) {
     let mut text = Buffer::new(alloc);
     for _ in 0..random.below(6) {
-        let place = random.below(12) as usize;
-        text.extend(TEXTS.get(place).copied().unwrap_or("x").as_bytes());
+        if random.below(4) == 0 {
+            text.extend(scalar(random).encode_utf8(&mut [0; 4]).as_bytes());
+        } else {
+            let place = random.below(12) as usize;
+            text.extend(TEXTS.get(place).copied().unwrap_or("x").as_bytes());
+        }
     }
     add_text(text.bytes(), made);
     made.check(text.done().is_ok());
+}
+
+/// A scalar value of any plane, most often of the first.
+pub fn scalar(random: &mut Random) -> char {
+    let number = match random.below(4) {
+        0 => random.below(0x11_0000),
+        1 => random.below(0x1_0000),
+        _ => random.below(0x3000),
+    };
+    char::from_u32(number).unwrap_or(char::REPLACEMENT_CHARACTER)
 }
 
 // Adds a text of some bytes of any kind, or of words.

@@ -103,6 +103,16 @@ impl Recorded {
         Ok(None)
     }
 
+    /// Has the emulated terminal one column more than the screen, which nothing may reach.
+    pub fn add_last_column(&mut self) -> Result<(), Trouble> {
+        let Size { rows, columns, .. } = self.profile.size();
+        let size = Size::new(rows, columns.saturating_add(1)).ok_or(Trouble::Bad("no size"))?;
+        match Profile::admit_as(self.alloc, &self.entry, Some(size), self.opening.charset) {
+            Ok(profile) => Ok(self.emulated.add_last_column(self.alloc, profile)?),
+            Err(_) => Err(Trouble::NoMemory),
+        }
+    }
+
     /// Makes a call other than an update, and adds what it answers.
     pub fn call(&mut self, call: Call, got: &mut Buffer) -> Result<(), Trouble> {
         if may_paint_all(&self.screen, &call) {

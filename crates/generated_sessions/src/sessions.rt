@@ -17,6 +17,7 @@ use scr_cells::{Charset, Size};
 use scr_term::Op;
 use std::alloc::Global;
 use std::io::Write;
+use ti_caps::Entry;
 
 // What each session begins with: two pairs of colours, a small window, a pad, a subwindow, and some rows of text.
 static BEGIN: [&str; 8] = [
@@ -37,6 +38,8 @@ struct Sessions {
     size: Size,
     opening: Opening,
     updates: u32,
+    // Whether the terminal's last column is left out.
+    is_narrow: bool,
     // Whether each update is cut after each number of its bytes.
     is_cut: bool,
     random: Random,
@@ -57,10 +60,14 @@ struct Sessions {
 ///
 /// The lines `utf8_sessions` and `utf8_cut_sessions` do so on a screen in UTF-8.
 ///
+/// The line `narrow_sessions` does so on a terminal without `xenl`, whose last column the screen leaves out. Nothing may
+/// reach it there.
+///
 /// The line `cut_sessions R C COUNT UPDATES SEED CUTS NAME ..`: the same, but that no update fails and nothing is
 /// written by others, and each update is cut as with `count_cuts`, which is at least so many cuts.
 pub fn check_sessions(opened: &mut Option<Recorded>, line: &mut Line<'_>) -> Result<(), Trouble> {
     let opening = opening_of(line.name);
+    let is_narrow = line.name == "narrow_sessions";
     let (is_cut, words) = (line.name.ends_with("cut_sessions"), &mut line.words);
     let size = words.size()?;
     let (count, updates, seed) = (words.number(), words.number(), words.number());
@@ -77,6 +84,7 @@ pub fn check_sessions(opened: &mut Option<Recorded>, line: &mut Line<'_>) -> Res
         size,
         opening,
         updates,
+        is_narrow,
         is_cut,
         random: Random::new(seed),
         counts: [0; 4],
@@ -144,9 +152,10 @@ impl Sessions {
     // Checks a session on a screen of its own.
     fn check(&mut self, opened: &mut Option<Recorded>, names: Words<'_>) -> Result<bool, Trouble> {
         let mut names = names;
-        let entry = read_entry(self.alloc, &mut names).ok_or(Trouble::NoMemory)?;
+        let mut entry = read_entry(self.alloc, &mut names).ok_or(Trouble::NoMemory)?;
         names.done()?;
-        if Recorded::open_into(self.alloc, entry, self.size, self.opening, opened)?.is_some() {
+        let size = self.size_on(&mut entry)?;
+        if Recorded::open_into(self.alloc, entry, size, self.opening, opened)?.is_some() {
             return Err(Trouble::NoMemory);
         }
         self.story.clear();
@@ -156,7 +165,22 @@ impl Sessions {
         }
     }
 
+    // The size of the screen, where the terminal's last column may be left out.
+    fn size_on(&self, entry: &mut Entry) -> Result<Size, Trouble> {
+        if !self.is_narrow {
+            return Ok(self.size);
+        }
+        let columns = self.size.columns.saturating_sub(1);
+        match Size::new(self.size.rows, columns) {
+            Some(size) if entry.without_last_column() => Ok(size),
+            _ => Err(Trouble::Bad("no column can be left out")),
+        }
+    }
+
     fn check_opened(&mut self, opened: &mut Recorded) -> Result<bool, Trouble> {
+        if self.is_narrow {
+            opened.add_last_column()?;
+        }
         for line in &BEGIN {
             self.line.extend(line.as_bytes());
             self.make(opened)?;
