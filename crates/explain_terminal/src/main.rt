@@ -4,9 +4,11 @@
 //!
 //! The line has the size of the screen, or says that the entry has none (then 24 rows of 80 columns
 //! are tried), the attributes that the terminal shows, whether it shows colours, and how long the
-//! text of an operation can be; or it says why the terminal cannot be served (status 1). The only
-//! options are `--help` and `--version`, which answer on standard output; anything else is a usage
-//! error (status 2).
+//! text of an operation can be; or it says why the entry makes no screen. Programs take an entry
+//! with colours first, and without a last column that would scroll: where that makes a difference, a
+//! second line says the same of the entry as they take it. The status is 1 if no screen can be
+//! opened either way. The only options are `--help` and `--version`, which answer on standard
+//! output; anything else is a usage error (status 2).
 #![tactic(auto)]
 
 use clap::error::ErrorKind;
@@ -31,14 +33,12 @@ enum Refusal {
     File(BinFault),
     #[error("{0}")]
     Database(DatabaseFault),
-    #[error("{0}")]
-    Profile(ProfileFault),
     #[error("out of memory")]
     NoMemory,
 }
 
 // What is printed about a terminal that can be served.
-#[derive(Clone, Copy)]
+#[derive(Clone, Copy, PartialEq, Eq)]
 struct Report {
     // `None` if the entry has no size.
     size: Option<Size>,
@@ -82,19 +82,15 @@ fn entry_named(rt: &HostRuntime, name: &str) -> Result<Entry, Refusal> {
     }
 }
 
-// Admits an entry.
-fn explain(alloc: Global, entry: &Entry) -> Result<Report, Refusal> {
+// Admits an entry; one without a size on a screen of 24 rows and so many columns.
+fn explain(alloc: Global, entry: &Entry, columns: u32) -> Result<Report, ProfileFault> {
     match Profile::admit(alloc, entry, None) {
         Err(ProfileFault::NoSize) => {}
-        Err(ProfileFault::NoMemory) => return Err(Refusal::NoMemory),
-        Err(fault) => return Err(Refusal::Profile(fault)),
+        Err(fault) => return Err(fault),
         Ok(profile) => return Ok(report_of(&profile, Some(profile.size()))),
     }
-    match Profile::admit(alloc, entry, Size::new(24, 80)) {
-        Ok(profile) => Ok(report_of(&profile, None)),
-        Err(ProfileFault::NoMemory) => Err(Refusal::NoMemory),
-        Err(fault) => Err(Refusal::Profile(fault)),
-    }
+    let profile = Profile::admit(alloc, entry, Size::new(24, columns))?;
+    Ok(report_of(&profile, None))
 }
 
 // The names of the capabilities for a set of attributes, each as a word.
@@ -174,18 +170,40 @@ fn named(alloc: Global, name: &str) -> Words {
 // Explains an entry, and returns the status.
 fn say(rt: &HostRuntime, entry: Result<Entry, Refusal>) -> u8 {
     match entry {
-        Ok(entry) => say_entry(rt, &entry),
+        Ok(entry) => say_entry(rt, entry),
         Err(refusal) => refuse(rt, &refusal),
     }
 }
 
-fn say_entry(rt: &HostRuntime, entry: &Entry) -> u8 {
-    match explain(rt.alloc(), entry) {
-        Ok(said) => {
-            print_report(rt, said);
-            0
+// Says what an entry makes as it is, and, if that is something else, as programs take it.
+fn say_entry(rt: &HostRuntime, entry: Entry) -> u8 {
+    let given = explain(rt.alloc(), &entry, 80);
+    let mut entry = entry;
+    let columns = if entry.without_last_column() { 79 } else { 80 };
+    entry.colours_first();
+    let adapted = explain(rt.alloc(), &entry, columns);
+    if is_short(&given) || is_short(&adapted) {
+        return refuse(rt, &Refusal::NoMemory);
+    }
+    print_made(rt, &given);
+    if adapted != given {
+        let _ = print!(rt; "as programs take it: ");
+        print_made(rt, &adapted);
+    }
+    if adapted.is_ok() { 0 } else { 1 }
+}
+
+// Whether memory ran out.
+fn is_short(made: &Result<Report, ProfileFault>) -> bool {
+    matches!(made, Err(ProfileFault::NoMemory))
+}
+
+fn print_made(rt: &HostRuntime, made: &Result<Report, ProfileFault>) {
+    match made {
+        Ok(report) => print_report(rt, *report),
+        Err(fault) => {
+            let _ = println!(rt; "refused: {fault}");
         }
-        Err(refusal) => refuse(rt, &refusal),
     }
 }
 

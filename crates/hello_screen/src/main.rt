@@ -1,8 +1,8 @@
-//! A first program: a greeting in a box, until a key is pressed. Any argument selects the bundled entry.
+//! A first program: a greeting in a box, until a key is pressed. Any argument selects the bundled entry, in UTF-8.
 #![tactic(auto)]
 
 use anyhow::Result;
-use curses::{Attrs, Screen, Win, WinFault, bundled};
+use curses::{Attrs, BOX, Charset, Opening, Screen, Win, WinFault, bundled};
 use terminal::{Event, Program, TerminalScreen};
 
 #[derive(Drop)]
@@ -11,13 +11,13 @@ struct Greeting;
 impl Program for Greeting {
     fn draw(&mut self, screen: &mut Screen) -> Result<(), WinFault> {
         let (rows, columns) = screen.size(Win(0))?;
-        screen.border(Win(0), *b"||--++++")?;
+        screen.border_of(Win(0), BOX)?;
         screen.move_cursor(Win(0), rows.min(5) / 2, columns.min(9) / 2)?;
         screen.attr_on(Win(0), Attrs::REVERSE)?;
-        let _ = screen.add_text(Win(0), b" Hello from Huttavel ")?;
+        let _ = screen.add_str(Win(0), " Hello from Huttavel ")?;
         screen.attr_off(Win(0), Attrs::REVERSE)?;
         screen.move_cursor(Win(0), rows.min(8) / 2, columns.min(9) / 2)?;
-        let _ = screen.add_text(Win(0), b"press a key ")?;
+        let _ = screen.add_str(Win(0), "À bientôt: press a key ")?;
         screen.noutrefresh(Win(0))
     }
 
@@ -27,9 +27,10 @@ impl Program for Greeting {
 }
 
 fn main(rt: HostRuntime) -> Result<()> {
+    let charset = Charset::Utf8;
     let mut terminal = match std::env::args(&rt)?.count() {
         0 | 1 => TerminalScreen::open(&rt)?,
-        _ => TerminalScreen::open_entry(&rt, bundled(rt.alloc())?)?,
+        _ => TerminalScreen::open_entry_as(&rt, bundled(rt.alloc())?, Opening { charset })?,
     };
     Ok(terminal.run(&rt, &mut Greeting)?)
 }
