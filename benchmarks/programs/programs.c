@@ -7,18 +7,6 @@
 #include <stdarg.h>
 #include <unistd.h>
 
-static const struct {
-    const char *name;
-    void (*begin)(void);
-    void (*step)(void);
-    int steps;
-} programs[] = {
-    {"editor", begin_editor, step_editor, 300},          {"pager", begin_pager, step_pager, 250},
-    {"mail", begin_mail, step_mail, 250},                {"log", begin_log, step_log, 250},
-    {"installer", begin_installer, step_installer, 250}, {"monitor", begin_monitor, step_monitor, 150},
-};
-#define PROGRAMS (sizeof programs / sizeof *programs)
-
 static bool has_pairs;
 
 int below(int limit)
@@ -106,14 +94,15 @@ static void begin_colors(void)
 
 int main(int argc, char **argv)
 {
-    size_t each = 0;
+    const struct program *program = programs;
     int step;
     FILE *output, *input = fopen("/dev/null", "r");
 
-    while (argc >= 3 && each < PROGRAMS && strcmp(argv[1], programs[each].name) != 0)
-        each++;
-    if (argc < 3 || each == PROGRAMS)
+    while (argc >= 3 && program->name && strcmp(argv[1], program->name) != 0)
+        program++;
+    if (argc < 3 || !program->name)
         return 2;
+    begin_locale();
     output = fopen(argv[2], "w");
     if (!output || !input || !newterm(NULL, output, input))
         return 1;
@@ -123,9 +112,9 @@ int main(int argc, char **argv)
         begin_colors();
     refresh();
     printf("%ld\n", (long)lseek(fileno(output), 0, SEEK_END));
-    programs[each].begin();
-    for (step = 0; step < programs[each].steps; step++) {
-        programs[each].step();
+    program->begin();
+    for (step = 0; step < program->steps; step++) {
+        program->step();
         doupdate();
         printf("%ld\n", (long)lseek(fileno(output), 0, SEEK_END));
     }

@@ -11,6 +11,20 @@
 
 #define LONGEST 100
 
+/* A program: what it begins with, and its next step, which it takes by wnoutrefresh(). */
+struct program {
+    const char *name;
+    void (*begin)(void);
+    void (*step)(void);
+    int steps;
+};
+
+/* All programs, and after them one without a name. */
+extern const struct program programs[];
+
+/* Chooses the locale of the programs. */
+void begin_locale(void);
+
 /* The next random number, from 0 to a limit less 1. */
 int below(int limit);
 
@@ -30,7 +44,7 @@ void draw_text(int row, int column, chtype attrs, const char *text);
 /* The attributes of a colour, from 1 to 7; others where no colours are shown. */
 chtype in_color(int color, chtype others);
 
-/* Each program: what it begins with, and its next step, which it takes by wnoutrefresh(). */
+/* The programs in ASCII. */
 void begin_editor(void);
 void step_editor(void);
 void begin_pager(void);

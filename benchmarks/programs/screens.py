@@ -1,9 +1,11 @@
 """What a terminal shows that is sent bytes by the entries of xterm, tmux, screen, the Linux console, vt220 and rxvt:
-ECMA-48, and private functions of these. One that is not known, or that terminals take in different ways where it comes,
-is an error."""
+ECMA-48, private functions of these, and UTF-8 with characters of one column. One that is not known, or that terminals
+take in different ways where it comes, is an error."""
 import re
 
-TOKEN = re.compile(rb"\x1b\[([?>!]?)([0-9;]*)([@-~])|\x1b([()].|[78=>DEM])|([\x00-\x1f])|([ -~]+)")
+TOKEN = re.compile(rb"\x1b\[([?>!]?)([0-9;]*)([@-~])|\x1b([()].|[78=>DEM])|([\x00-\x1f])|([ -~\x80-\xff]+)")
+# The lines of the VT100's graphic set, from ` on.
+LINES = "\u25c6\u2592\u2409\u240c\u240d\u240a\u00b0\u00b1\u2424\u240b\u2518\u2510\u250c\u2514\u253c\u23ba\u23bb\u2500\u23bc\u23bd\u251c\u2524\u2534\u252c\u2502\u2264\u2265\u03c0\u2260\u00a3\u00b7"
 PARTS = {22: {1, 2}, 24: {4}, 25: {5}, 27: {7}, 28: {8}}
 
 
@@ -11,7 +13,7 @@ class Terminal:
     def __init__(self, rows, columns, erases_in_color):
         self.rows, self.columns, self.erases_in_color = rows, columns, erases_in_color
         self.row = self.column = 0
-        self.is_at_margin, self.inserts = False, False
+        self.is_at_margin, self.inserts, self.draws_lines = False, False, False
         self.top, self.bottom = 0, rows - 1
         self.attributes, self.front, self.back = frozenset(), 9, 9
         self.last, self.cache, self.saved = " ", {}, None
@@ -101,6 +103,7 @@ class Terminal:
 
     def escape(self, name):
         if name[:1] in "()" or name in "=>":
+            self.draws_lines = name == "(0" if name[:1] == "(" else self.draws_lines
             return
         if name == "7":
             self.saved = self.row, self.column, self.attributes, self.front, self.back
@@ -199,6 +202,12 @@ class Terminal:
         else:
             self.wants(False, final)
 
+    def drawn(self, text):
+        """What is written for characters: lines in place of those from ` to ~ if lines are drawn."""
+        if not self.draws_lines:
+            return text
+        return "".join(LINES[ord(each) - 96] if "`" <= each <= "~" else each for each in text)
+
     def take(self, given):
         """Takes bytes of an update: control functions are whole."""
         place = 0
@@ -208,7 +217,7 @@ class Terminal:
                 raise ValueError("no control function: %r" % given[place:place + 12])
             mark, numbers, final, escape, control, text = found.groups()
             if text:
-                self.write(text.decode())
+                self.write(self.drawn(text.decode()))
             elif control:
                 self.control(control[0])
             elif escape:
