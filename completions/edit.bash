@@ -2,7 +2,7 @@
 _huttavel_edit() {
     local word=${COMP_WORDS[COMP_CWORD]}
     case $word in
-        -*) mapfile -t COMPREPLY < <(compgen -W '-b --bundled -s --script -w --wrap -h --help -V --version' -- "$word") ;;
+        -*) mapfile -t COMPREPLY < <(compgen -W '-b --bundled -s --script -u --utf8 -w --wrap -h --help -V --version' -- "$word") ;;
         *) mapfile -t COMPREPLY < <(compgen -f -- "$word") ;;
     esac
 }

@@ -3,6 +3,7 @@ complete -c screendemo -f
 complete -c screendemo -s r -d 'Sends the terminal\'s bytes, and writes refusals to the standard error'
 complete -c screendemo -s e -d 'Explains the last update: what is sent, and how many bytes each part takes'
 complete -c screendemo -l picture -d 'Draws the last screen as an SVG'
+complete -c screendemo -s u -d 'The terminal speaks UTF-8: characters beyond ASCII are shown, and not their stand-ins'
 complete -c screendemo -s v -d 'Says why a line is not a command'
 complete -c screendemo -s V -l version -d 'Print version'
 complete -c screendemo -s h -l help -d 'Print help'
