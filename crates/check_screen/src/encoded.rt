@@ -108,6 +108,7 @@ fn is_fed(alloc: Global, random: &mut Random, got: &mut Buffer) -> Result<bool, 
             break;
         }
     }
+    row.done()?;
     let mut wanted = Buffer::new(alloc);
     add_state(&row, column, &mut wanted);
     print_state(&screen, got);
