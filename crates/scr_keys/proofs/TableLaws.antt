@@ -5,6 +5,7 @@ use Rattle.std.proofs.lemmas.List.{length-take-le, take-take, take_all}
 use Rattle.std.proofs.lemmas.Slice.Eq.{bytes_eq-Decides}
 use Rattle.ti_caps.specs.Description.{Description}
 use Rattle.ti_caps.specs.Table.{or_else}
+use Rattle.scr_keys.specs.declared.sets.KeySet.{KeySet}
 use Rattle.scr_keys.specs.Code.Maps.{IsClosed, IsTable, MapsView, length_from, longest_from}
 use Rattle.scr_keys.specs.Keys.{Keys, goes_on, is_beginning, key_of, longest_text}
 use Rattle.scr_keys.specs.Tables.{keys_below, keys_of, text_of_key, too_long, too_long_below, with_key}
@@ -74,38 +75,38 @@ closed maps is = λ text n there. is.by_beginning (take n text) ∙ goes_shorter
 -- ---- all positions
 
 -- a text that is too long is found at the lowest position
-pub first_long : (entry : Description) (n : ℕ) → too_long_below entry n ≡ None → nat_lt 64 (length (text_of_key entry n)) ≡ true → too_long_below entry (n + 1) ≡ Some n
-first_long entry n none test =
+pub first_long : (set : KeySet) (entry : Description) (n : ℕ) → too_long_below set entry n ≡ None → nat_lt 64 (length (text_of_key set entry n)) ≡ true → too_long_below set entry (n + 1) ≡ Some n
+first_long set entry n none test =
     let e : n + 1 ≡ suc n = omega arith in
-    ap (too_long_below entry) e ∙ ap (λ o. or_else o (if nat_lt 64 (length (text_of_key entry n)) then Some n else None)) none ∙ ap (λ b. if b then Some n else None) test
+    ap (too_long_below set entry) e ∙ ap (λ o. or_else o (if nat_lt 64 (length (text_of_key set entry n)) then Some n else None)) none ∙ ap (λ b. if b then Some n else None) test
 
-pub none_long : (entry : Description) (n : ℕ) → too_long_below entry n ≡ None → nat_lt 64 (length (text_of_key entry n)) ≡ false → too_long_below entry (n + 1) ≡ None
-none_long entry n none test =
+pub none_long : (set : KeySet) (entry : Description) (n : ℕ) → too_long_below set entry n ≡ None → nat_lt 64 (length (text_of_key set entry n)) ≡ false → too_long_below set entry (n + 1) ≡ None
+none_long set entry n none test =
     let e : n + 1 ≡ suc n = omega arith in
-    ap (too_long_below entry) e ∙ ap (λ o. or_else o (if nat_lt 64 (length (text_of_key entry n)) then Some n else None)) none ∙ ap (λ b. if b then Some n else None) test
+    ap (too_long_below set entry) e ∙ ap (λ o. or_else o (if nat_lt 64 (length (text_of_key set entry n)) then Some n else None)) none ∙ ap (λ b. if b then Some n else None) test
 
 -- and stays the lowest
-pub long_stays : (entry : Description) (n k m : ℕ) → too_long_below entry n ≡ Some m → too_long_below entry (n + k) ≡ Some m
-long_stays entry n zero m long = let e : n + 0 ≡ n = omega arith in ap (too_long_below entry) e ∙ long
-long_stays entry n (suc k) m long =
+pub long_stays : (set : KeySet) (entry : Description) (n k m : ℕ) → too_long_below set entry n ≡ Some m → too_long_below set entry (n + k) ≡ Some m
+long_stays set entry n zero m long = let e : n + 0 ≡ n = omega arith in ap (too_long_below set entry) e ∙ long
+long_stays set entry n (suc k) m long =
     let e : n + suc k ≡ suc (n + k) = omega arith in
-    ap (too_long_below entry) e ∙ ap (λ o. or_else o (if nat_lt 64 (length (text_of_key entry (n + k))) then Some (n + k) else None)) (long_stays entry n k m long)
+    ap (too_long_below set entry) e ∙ ap (λ o. or_else o (if nat_lt 64 (length (text_of_key set entry (n + k))) then Some (n + k) else None)) (long_stays set entry n k m long)
 
-pub long_in_all : (entry : Description) (n : ℕ) → n < 512 → too_long_below entry n ≡ None → nat_lt 64 (length (text_of_key entry n)) ≡ true → too_long entry ≡ Some n
+pub long_in_all : (set : KeySet) (entry : Description) (n : ℕ) → n < 512 → too_long_below set entry n ≡ None → nat_lt 64 (length (text_of_key set entry n)) ≡ true → too_long set entry ≡ Some n
 unfolding too_long
-long_in_all entry n inside none long =
+long_in_all set entry n inside none long =
     let e : 512 ≡ n + 1 + (511 - n) = omega (arith, inside) in
-    ap (too_long_below entry) e ∙ long_stays entry (n + 1) (511 - n) n (first_long entry n none long)
+    ap (too_long_below set entry) e ∙ long_stays set entry (n + 1) (511 - n) n (first_long set entry n none long)
 
-pub keys_in_all : (entry : Description) (keys : Keys) (n : ℕ) → keys ≡ keys_below entry n → n ≡ 512 → keys ≡ keys_of entry
+pub keys_in_all : (set : KeySet) (entry : Description) (keys : Keys) (n : ℕ) → keys ≡ keys_below set entry n → n ≡ 512 → keys ≡ keys_of set entry
 unfolding keys_of
-keys_in_all entry keys n is all = is ∙ ap (keys_below entry) all
+keys_in_all set entry keys n is all = is ∙ ap (keys_below set entry) all
 
-pub none_in_all : (entry : Description) (n : ℕ) → too_long_below entry n ≡ None → n ≡ 512 → too_long entry ≡ None
+pub none_in_all : (set : KeySet) (entry : Description) (n : ℕ) → too_long_below set entry n ≡ None → n ≡ 512 → too_long set entry ≡ None
 unfolding too_long
-none_in_all entry n none all = sym (ap (too_long_below entry) all) ∙ none
+none_in_all set entry n none all = sym (ap (too_long_below set entry) all) ∙ none
 
-pub keys_more : (entry : Description) (keys new : Keys) (n : ℕ) (text : List ℕ) → keys ≡ keys_below entry n → text ≡ text_of_key entry n → new ≡ with_key keys text n → new ≡ keys_below entry (n + 1)
-keys_more entry keys new n text is same all =
+pub keys_more : (set : KeySet) (entry : Description) (keys new : Keys) (n : ℕ) (text : List ℕ) → keys ≡ keys_below set entry n → text ≡ text_of_key set entry n → new ≡ with_key keys text n → new ≡ keys_below set entry (n + 1)
+keys_more set entry keys new n text is same all =
     let e : n + 1 ≡ suc n = omega arith in
-    all ∙ ap (λ k. with_key k text n) is ∙ ap (λ t. with_key (keys_below entry n) t n) same ∙ sym (ap (keys_below entry) e)
+    all ∙ ap (λ k. with_key k text n) is ∙ ap (λ t. with_key (keys_below set entry n) t n) same ∙ sym (ap (keys_below set entry) e)

@@ -1,11 +1,12 @@
--- The keys by name, beside the capability table. terminfo(5), 'Predefined Capabilities'.
+-- The keys by name. terminfo(5), 'Predefined Capabilities'.
 use Rattle.std.specs.Prelude.{ℕ, Bool, true, false, ◌≡◌, List, [], ◌∷◌, codes}
 use Rattle.std.specs.List.{list_all}
-use Rattle.ti_caps.specs.Slots.{is_slot_of}
+use Rattle.ti_caps.specs.Slots.{is_name, is_slot_of}
+use Rattle.ti_caps.specs.Standard.{standard_name_at}
 use Rattle.ti_caps.specs.declared.table.Kind.TheVariants.{Text}
 use Rattle.scr_keys.specs.declared.keys.Key.{Key}
 use Rattle.scr_keys.specs.declared.keys.Key.TheVariants.{Slot, Byte}
-use Rattle.scr_keys.specs.declared.names.TheConstants.{BACKSPACE, CLEAR_ALL_TABS, CLEAR, CLEAR_TAB, DELETE, DELETE_LINE, DOWN, EXIT_INSERT, CLEAR_TO_EOL, CLEAR_TO_BOTTOM, F0, F1, F10, F2, F3, F4, F5, F6, F7, F8, F9, HOME, INSERT, INSERT_LINE, LEFT, HOME_DOWN, PAGE_DOWN, PAGE_UP, RIGHT, SCROLL_FORWARD, SCROLL_BACKWARD, SET_TAB, UP, UPPER_LEFT, UPPER_RIGHT, CENTER, LOWER_LEFT, LOWER_RIGHT, BACK_TAB, BEGIN, CANCEL, CLOSE, COMMAND, COPY, CREATE, END, ENTER, EXIT, FIND, HELP, MARK, MESSAGE, MOVE, NEXT, OPEN, OPTIONS, PREVIOUS, PRINT, REDO, REFERENCE, REFRESH, REPLACE, RESTART, RESUME, SAVE, SUSPEND, UNDO, F11, F12, F13, F14, F15, F16, F17, F18, F19, F20, F21, F22, F23, F24, F25, F26, F27, F28, F29, F30, F31, F32, F33, F34, F35, F36, F37, F38, F39, F40, F41, F42, F43, F44, F45, F46, F47, F48, F49, F50, F51, F52, F53, F54, F55, F56, F57, F58, F59, F60, F61, F62, F63}
+use Rattle.scr_keys.specs.declared.names.TheConstants.{BACKSPACE, CLEAR_ALL_TABS, CLEAR, CLEAR_TAB, DELETE, DELETE_LINE, DOWN, EXIT_INSERT, CLEAR_TO_EOL, CLEAR_TO_BOTTOM, F0, F1, F10, F2, F3, F4, F5, F6, F7, F8, F9, HOME, INSERT, INSERT_LINE, LEFT, HOME_DOWN, PAGE_DOWN, PAGE_UP, RIGHT, SCROLL_FORWARD, SCROLL_BACKWARD, SET_TAB, UP, UPPER_LEFT, UPPER_RIGHT, CENTER, LOWER_LEFT, LOWER_RIGHT, BACK_TAB, BEGIN, CANCEL, CLOSE, COMMAND, COPY, CREATE, END, ENTER, EXIT, FIND, HELP, MARK, MESSAGE, MOVE, NEXT, OPEN, OPTIONS, PREVIOUS, PRINT, REDO, REFERENCE, REFRESH, REPLACE, RESTART, RESUME, SAVE, SUSPEND, UNDO, F11, F12, F13, F14, F15, F16, F17, F18, F19, F20, F21, F22, F23, F24, F25, F26, F27, F28, F29, F30, F31, F32, F33, F34, F35, F36, F37, F38, F39, F40, F41, F42, F43, F44, F45, F46, F47, F48, F49, F50, F51, F52, F53, F54, F55, F56, F57, F58, F59, F60, F61, F62, F63, SHIFT_BEGIN, SHIFT_CANCEL, SHIFT_COMMAND, SHIFT_COPY, SHIFT_CREATE, SHIFT_DELETE, SHIFT_DELETE_LINE, SELECT, SHIFT_END, SHIFT_CLEAR_TO_EOL, SHIFT_EXIT, SHIFT_FIND, SHIFT_HELP, SHIFT_HOME, SHIFT_INSERT, SHIFT_LEFT, SHIFT_MESSAGE, SHIFT_MOVE, SHIFT_NEXT, SHIFT_OPTIONS, SHIFT_PREVIOUS, SHIFT_PRINT, SHIFT_REDO, SHIFT_REPLACE, SHIFT_RIGHT, SHIFT_RESUME, SHIFT_SAVE, SHIFT_SUSPEND, SHIFT_UNDO, MOUSE}
 
 -- The key is at the position of this name in the table of texts.
 abbrev pub is_key_of : Key → List ℕ → Bool
@@ -156,6 +157,49 @@ sixth_keys =
     ∷ is_key_of F62 (codes "kf62")
     ∷ is_key_of F63 (codes "kf63") ∷ []
 
+-- The key is at the position of this name among all texts of term.h.
+abbrev pub is_standard_key_of : Key → List ℕ → Bool
+is_standard_key_of (Slot n) name = is_name name (standard_name_at Text n)
+is_standard_key_of (Byte n) name = false
+
+-- Each of these keys, which the table does not have, is at its name's position.
+abbrev pub shifted_keys : List Bool
+shifted_keys =
+    is_standard_key_of SHIFT_BEGIN (codes "kBEG")
+    ∷ is_standard_key_of SHIFT_CANCEL (codes "kCAN")
+    ∷ is_standard_key_of SHIFT_COMMAND (codes "kCMD")
+    ∷ is_standard_key_of SHIFT_COPY (codes "kCPY")
+    ∷ is_standard_key_of SHIFT_CREATE (codes "kCRT")
+    ∷ is_standard_key_of SHIFT_DELETE (codes "kDC")
+    ∷ is_standard_key_of SHIFT_DELETE_LINE (codes "kDL")
+    ∷ is_standard_key_of SELECT (codes "kslt")
+    ∷ is_standard_key_of SHIFT_END (codes "kEND")
+    ∷ is_standard_key_of SHIFT_CLEAR_TO_EOL (codes "kEOL")
+    ∷ is_standard_key_of SHIFT_EXIT (codes "kEXT")
+    ∷ is_standard_key_of SHIFT_FIND (codes "kFND")
+    ∷ is_standard_key_of SHIFT_HELP (codes "kHLP")
+    ∷ is_standard_key_of SHIFT_HOME (codes "kHOM")
+    ∷ is_standard_key_of SHIFT_INSERT (codes "kIC") ∷ []
+
+-- The same of these.
+abbrev pub more_shifted_keys : List Bool
+more_shifted_keys =
+    is_standard_key_of SHIFT_LEFT (codes "kLFT")
+    ∷ is_standard_key_of SHIFT_MESSAGE (codes "kMSG")
+    ∷ is_standard_key_of SHIFT_MOVE (codes "kMOV")
+    ∷ is_standard_key_of SHIFT_NEXT (codes "kNXT")
+    ∷ is_standard_key_of SHIFT_OPTIONS (codes "kOPT")
+    ∷ is_standard_key_of SHIFT_PREVIOUS (codes "kPRV")
+    ∷ is_standard_key_of SHIFT_PRINT (codes "kPRT")
+    ∷ is_standard_key_of SHIFT_REDO (codes "kRDO")
+    ∷ is_standard_key_of SHIFT_REPLACE (codes "kRPL")
+    ∷ is_standard_key_of SHIFT_RIGHT (codes "kRIT")
+    ∷ is_standard_key_of SHIFT_RESUME (codes "kRES")
+    ∷ is_standard_key_of SHIFT_SAVE (codes "kSAV")
+    ∷ is_standard_key_of SHIFT_SUSPEND (codes "kSPD")
+    ∷ is_standard_key_of SHIFT_UNDO (codes "kUND")
+    ∷ is_standard_key_of MOUSE (codes "kmous") ∷ []
+
 -- Each key is at the position of its name.
 pub record KeysAreNamed : Type 0 where
   pub first : list_all (λ is. is) first_keys ≡ true
@@ -164,3 +208,5 @@ pub record KeysAreNamed : Type 0 where
   pub fourth : list_all (λ is. is) fourth_keys ≡ true
   pub fifth : list_all (λ is. is) fifth_keys ≡ true
   pub sixth : list_all (λ is. is) sixth_keys ≡ true
+  pub shifted : list_all (λ is. is) shifted_keys ≡ true
+  pub more_shifted : list_all (λ is. is) more_shifted_keys ≡ true

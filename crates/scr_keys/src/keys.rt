@@ -1,20 +1,21 @@
 //! What was pressed.
 
 use std::fmt;
-use ti_caps::{Kind, Slot, name_of};
+use ti_caps::standard::name_of;
+use ti_caps::{Kind, Slot};
 
 /// What was pressed: a key of the terminal's entry, or a byte.
 ///
-/// The module `names` has a constant for each key of the capability table.
+/// The module `names` has a constant for each key that has a name in term.h.
 #[derive(Clone, Copy, Debug, PartialEq, Eq)]
 pub enum Key {
-    /// The key whose text is at this position of the table (terminfo(5), 'Function Keys').
+    /// The key whose text is at this position of an entry (terminfo(5), 'Function Keys').
     Slot(u16),
     /// A byte that belongs to no key.
     Byte(u8),
 }
 
-/// A key is shown as the name of its capability, or as `position N` if the table has none. A byte is shown as its
+/// A key is shown as the name of its capability, or as `position N` if term.h has none. A byte is shown as its
 /// character, as `^X` if that is a control character, or as a backslash and three octal digits if it is not ASCII.
 impl fmt::Display for Key {
     fn fmt<W: fmt::Write>(&self, f: &mut fmt::Formatter<W>) -> fmt::Result {

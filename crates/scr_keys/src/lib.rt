@@ -9,6 +9,7 @@ mod maps;
 pub mod names;
 mod readers;
 mod sequences;
+mod sets;
 mod tables;
 mod typed_readers;
 mod typing;
@@ -20,6 +21,7 @@ pub use laws::{
     waits_for_more,
 };
 pub use readers::KeyReader;
+pub use sets::KeySet;
 pub use tables::KeyTable;
 pub use typed_readers::TypedReader;
 pub use typing::{Typed, TypedItems};

@@ -1,4 +1,5 @@
-//! The keys that a terminfo entry may have, by name: a constant for each key of the capability table.
+//! The keys that a terminfo entry may have, by name: a constant for each key of the capability table, and for each that
+//! only `KeySet::All` has.
 //!
 //! The names of the keys are in terminfo(5), 'Predefined Capabilities', and X/Open Curses Issue 7, 'Key Codes'. The
 //! constants may be patterns of a `match`.
@@ -247,8 +248,69 @@ pub const F61: Key = Key::Slot(266);
 pub const F62: Key = Key::Slot(267);
 /// Function key 63: `kf63`.
 pub const F63: Key = Key::Slot(268);
+/// Shifted beginning: `kBEG`, of `KeySet::All`.
+pub const SHIFT_BEGIN: Key = Key::Slot(186);
+/// Shifted cancel: `kCAN`, of `KeySet::All`.
+pub const SHIFT_CANCEL: Key = Key::Slot(187);
+/// Shifted command: `kCMD`, of `KeySet::All`.
+pub const SHIFT_COMMAND: Key = Key::Slot(188);
+/// Shifted copy: `kCPY`, of `KeySet::All`.
+pub const SHIFT_COPY: Key = Key::Slot(189);
+/// Shifted create: `kCRT`, of `KeySet::All`.
+pub const SHIFT_CREATE: Key = Key::Slot(190);
+/// Shifted delete-character: `kDC`, of `KeySet::All`.
+pub const SHIFT_DELETE: Key = Key::Slot(191);
+/// Shifted delete-line: `kDL`, of `KeySet::All`.
+pub const SHIFT_DELETE_LINE: Key = Key::Slot(192);
+/// Select: `kslt`, of `KeySet::All`.
+pub const SELECT: Key = Key::Slot(193);
+/// Shifted end: `kEND`, of `KeySet::All`.
+pub const SHIFT_END: Key = Key::Slot(194);
+/// Shifted clear to the line's end: `kEOL`, of `KeySet::All`.
+pub const SHIFT_CLEAR_TO_EOL: Key = Key::Slot(195);
+/// Shifted exit: `kEXT`, of `KeySet::All`.
+pub const SHIFT_EXIT: Key = Key::Slot(196);
+/// Shifted find: `kFND`, of `KeySet::All`.
+pub const SHIFT_FIND: Key = Key::Slot(197);
+/// Shifted help: `kHLP`, of `KeySet::All`.
+pub const SHIFT_HELP: Key = Key::Slot(198);
+/// Shifted home: `kHOM`, of `KeySet::All`.
+pub const SHIFT_HOME: Key = Key::Slot(199);
+/// Shifted insert-character: `kIC`, of `KeySet::All`.
+pub const SHIFT_INSERT: Key = Key::Slot(200);
+/// Shifted left arrow: `kLFT`, of `KeySet::All`.
+pub const SHIFT_LEFT: Key = Key::Slot(201);
+/// Shifted message: `kMSG`, of `KeySet::All`.
+pub const SHIFT_MESSAGE: Key = Key::Slot(202);
+/// Shifted move: `kMOV`, of `KeySet::All`.
+pub const SHIFT_MOVE: Key = Key::Slot(203);
+/// Shifted next object; on most keyboards next page: `kNXT`, of `KeySet::All`.
+pub const SHIFT_NEXT: Key = Key::Slot(204);
+/// Shifted options: `kOPT`, of `KeySet::All`.
+pub const SHIFT_OPTIONS: Key = Key::Slot(205);
+/// Shifted previous object; on most keyboards previous page: `kPRV`, of `KeySet::All`.
+pub const SHIFT_PREVIOUS: Key = Key::Slot(206);
+/// Shifted print: `kPRT`, of `KeySet::All`.
+pub const SHIFT_PRINT: Key = Key::Slot(207);
+/// Shifted redo: `kRDO`, of `KeySet::All`.
+pub const SHIFT_REDO: Key = Key::Slot(208);
+/// Shifted replace: `kRPL`, of `KeySet::All`.
+pub const SHIFT_REPLACE: Key = Key::Slot(209);
+/// Shifted right arrow: `kRIT`, of `KeySet::All`.
+pub const SHIFT_RIGHT: Key = Key::Slot(210);
+/// Shifted resume: `kRES`, of `KeySet::All`.
+pub const SHIFT_RESUME: Key = Key::Slot(211);
+/// Shifted save: `kSAV`, of `KeySet::All`.
+pub const SHIFT_SAVE: Key = Key::Slot(212);
+/// Shifted suspend: `kSPD`, of `KeySet::All`.
+pub const SHIFT_SUSPEND: Key = Key::Slot(213);
+/// Shifted undo: `kUND`, of `KeySet::All`.
+pub const SHIFT_UNDO: Key = Key::Slot(214);
+/// What begins a report of the mouse: `kmous`, of `KeySet::All`.
+pub const MOUSE: Key = Key::Slot(355);
 
-/// Each of these keys is at the position that its name has in the capability table.
+/// Each of these keys is at the position that its name has in the capability table or, of the keys that only
+/// `KeySet::All` has, among all names of term.h.
 pub fn keys_are_named()
     ensures { KeysAreNamed }
 {}

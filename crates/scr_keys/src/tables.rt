@@ -1,15 +1,17 @@
 //! The keys of a terminal, and how they are found.
 ghost use Rattle.std.specs.Prelude.{◌≡◌, ◌+◌, ◌<◌, ◌≤◌, ◌≢◌, ◌==◌, [], ◌∷◌, ◌++◌, None, IfErr, IfOk, IfSome, IsErrOf, OnErr, length, nat_lt};
-ghost use Rattle.scr_keys.specs.Tables.{AreKeysOf, AreRefused, HasKeyAt, HasKeys, is_key, is_new, text_of_key, with_key};
+ghost use Rattle.std.specs.Prelude.{option_map};
+ghost use Rattle.scr_keys.specs.Tables.{AreKeysOf, AreRefused, HasKeyAt, HasKeys, is_key, is_new, text_name_at, text_of_key, with_key};
 ghost use Rattle.scr_keys.specs.Keys.{first_of, goes_on, key_of, longest, longest_text};
 
 use crate::faults::KeyFault;
 use crate::keys::Key;
 use crate::maps::{KeyMaps, position_of};
+use crate::sets::KeySet;
 use out_of_memory::NoMemory;
 use std::alloc::Global;
 use std::marker::Model;
-use ti_caps::{Entry, Kind, MOST_TEXTS, Slot, name_of};
+use ti_caps::{Entry, Kind, MOST_TEXTS, Slot, name_of, standard};
 use ti_param::{padding_is_removed, padding_is_removed_once, strip_padding};
 
 /// The keys of a terminal, each with the text that it sends.
@@ -30,19 +32,37 @@ impl Model for KeyTable {
 }
 
 impl KeyTable {
-    /// Makes the table of an entry's keys: the texts whose names begin with `k`, without padding, all other bytes as
+    /// Makes the table of an entry's keys by the names of the capability table: `of_set` with `KeySet::Table`.
+    pub fn of(alloc: Global, entry: &Entry) -> Result<KeyTable, KeyFault>
+        ensures ok { IfOk result (AreKeysOf KeySet.Table entry.now) }
+        ensures err { IfErr result (AreRefused KeySet.Table entry.now) }
+        ensures memory { IsErrOf result KeyFault.NoMemory → HasKeys KeySet.Table entry.now }
+    {
+        KeyTable::of_set(alloc, entry, KeySet::Table)
+    }
+
+    /// Makes the table of an entry's keys by all names of term.h: `of_set` with `KeySet::All`.
+    pub fn of_all(alloc: Global, entry: &Entry) -> Result<KeyTable, KeyFault>
+        ensures ok { IfOk result (AreKeysOf KeySet.All entry.now) }
+        ensures err { IfErr result (AreRefused KeySet.All entry.now) }
+        ensures memory { IsErrOf result KeyFault.NoMemory → HasKeys KeySet.All entry.now }
+    {
+        KeyTable::of_set(alloc, entry, KeySet::All)
+    }
+
+    /// Makes the table of an entry's keys: the texts that have one of these names, without padding, all other bytes as
     /// they are. An empty text is not a key; of two keys that send the same, the one at the lower position counts.
     ///
     /// Refused: KeyTooLong with the lowest position whose text has more than 64 bytes; NoMemory if memory runs out,
     /// which it cannot if no key has a text. terminfo(5), 'Function Keys'.
-    pub fn of(alloc: Global, entry: &Entry) -> Result<KeyTable, KeyFault>
-        ensures ok { IfOk result (AreKeysOf entry.now) }
-        ensures err { IfErr result (AreRefused entry.now) }
-        ensures memory { IsErrOf result KeyFault.NoMemory → HasKeys entry.now }
+    pub fn of_set(alloc: Global, entry: &Entry, set: KeySet) -> Result<KeyTable, KeyFault>
+        ensures ok { IfOk result (AreKeysOf set entry.now) }
+        ensures err { IfErr result (AreRefused set entry.now) }
+        ensures memory { IsErrOf result KeyFault.NoMemory → HasKeys set entry.now }
     {
         let mut maps = KeyMaps::empty(alloc);
         for slot in 0..MOST_TEXTS as u16 {
-            let text = text_of_key(alloc, entry, Slot(slot))?;
+            let text = text_of_key(alloc, entry, set, Slot(slot))?;
             if is_too_long(&text) {
                 return Err(KeyFault::KeyTooLong(Slot(slot)));
             }
@@ -112,25 +132,35 @@ fn is_too_long(text: &[u8]) -> bool
 }
 
 // What the key at a position sends, without padding; nothing if there is no key.
-fn text_of_key(alloc: Global, entry: &Entry, slot: Slot) -> Result<Vec<u8>, NoMemory>
-    ensures text { IfOk result (λ text. text.items ≡ text_of_key entry.now slot.0) }
-    ensures some { IfOk result (λ text. text.items ≢ [] → HasKeyAt entry.now slot.0) }
-    ensures memory { OnErr result (HasKeyAt entry.now slot.0) }
+fn text_of_key(alloc: Global, entry: &Entry, set: KeySet, slot: Slot) -> Result<Vec<u8>, NoMemory>
+    ensures text { IfOk result (λ text. text.items ≡ text_of_key set entry.now slot.0) }
+    ensures some { IfOk result (λ text. text.items ≢ [] → HasKeyAt set entry.now slot.0) }
+    ensures memory { OnErr result (HasKeyAt set entry.now slot.0) }
 {
     padding_is_removed();
     padding_is_removed_once();
     match entry.text(slot) {
-        Some(text) if is_key(slot) => strip_padding(alloc, text),
+        Some(text) if is_key(set, slot) => strip_padding(alloc, text),
         _ => Ok(Vec::new(alloc)),
     }
 }
 
 // Whether a position is a key's: its name begins with `k`.
-fn is_key(slot: Slot) -> bool
-    ensures { result ≡ is_key slot.0 }
+fn is_key(set: KeySet, slot: Slot) -> bool
+    ensures { result ≡ is_key set slot.0 }
 {
-    match name_of(Kind::Text, slot) {
+    match text_name(set, slot) {
         Some(name) => name.as_bytes().first() == Some(&b'k'),
         None => false,
+    }
+}
+
+// The name of the text at a position, if there is one.
+fn text_name(set: KeySet, slot: Slot) -> Option<&'static str>
+    ensures { option_map (λ name. name.now) result ≡ text_name_at set slot.0 }
+{
+    match set {
+        KeySet::Table => name_of(Kind::Text, slot),
+        KeySet::All => standard::name_of(Kind::Text, slot),
     }
 }
