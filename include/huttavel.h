@@ -165,7 +165,8 @@ typedef struct huttavel_capability {
     uint32_t position;
 } huttavel_capability;
 
-/* What was pressed: a byte that belongs to no key, or a key of the entry, one of `enum huttavel_key_code`. */
+/* What was pressed: a byte that belongs to no key, or a key of the entry, by all names of terminfo(5): one of `enum
+ * huttavel_key_code`. */
 enum huttavel_key_kind { HUTTAVEL_KEY_BYTE = 0, HUTTAVEL_KEY_NAMED = 1 };
 
 typedef struct huttavel_key {

@@ -119,6 +119,66 @@ enum huttavel_key_code {
     HUTTAVEL_KEY_SUSPEND = 184,
     /* Undo: kund */
     HUTTAVEL_KEY_UNDO = 185,
+    /* Shifted beginning: kBEG */
+    HUTTAVEL_KEY_SHIFT_BEGIN = 186,
+    /* Shifted cancel: kCAN */
+    HUTTAVEL_KEY_SHIFT_CANCEL = 187,
+    /* Shifted command: kCMD */
+    HUTTAVEL_KEY_SHIFT_COMMAND = 188,
+    /* Shifted copy: kCPY */
+    HUTTAVEL_KEY_SHIFT_COPY = 189,
+    /* Shifted create: kCRT */
+    HUTTAVEL_KEY_SHIFT_CREATE = 190,
+    /* Shifted delete-character: kDC */
+    HUTTAVEL_KEY_SHIFT_DELETE = 191,
+    /* Shifted delete-line: kDL */
+    HUTTAVEL_KEY_SHIFT_DELETE_LINE = 192,
+    /* Select: kslt */
+    HUTTAVEL_KEY_SELECT = 193,
+    /* Shifted end: kEND */
+    HUTTAVEL_KEY_SHIFT_END = 194,
+    /* Shifted clear to the line's end: kEOL */
+    HUTTAVEL_KEY_SHIFT_CLEAR_TO_EOL = 195,
+    /* Shifted exit: kEXT */
+    HUTTAVEL_KEY_SHIFT_EXIT = 196,
+    /* Shifted find: kFND */
+    HUTTAVEL_KEY_SHIFT_FIND = 197,
+    /* Shifted help: kHLP */
+    HUTTAVEL_KEY_SHIFT_HELP = 198,
+    /* Shifted home: kHOM */
+    HUTTAVEL_KEY_SHIFT_HOME = 199,
+    /* Shifted insert-character: kIC */
+    HUTTAVEL_KEY_SHIFT_INSERT = 200,
+    /* Shifted left arrow: kLFT */
+    HUTTAVEL_KEY_SHIFT_LEFT = 201,
+    /* Shifted message: kMSG */
+    HUTTAVEL_KEY_SHIFT_MESSAGE = 202,
+    /* Shifted move: kMOV */
+    HUTTAVEL_KEY_SHIFT_MOVE = 203,
+    /* Shifted next object; on most keyboards next page: kNXT */
+    HUTTAVEL_KEY_SHIFT_NEXT = 204,
+    /* Shifted options: kOPT */
+    HUTTAVEL_KEY_SHIFT_OPTIONS = 205,
+    /* Shifted previous object; on most keyboards previous page: kPRV */
+    HUTTAVEL_KEY_SHIFT_PREVIOUS = 206,
+    /* Shifted print: kPRT */
+    HUTTAVEL_KEY_SHIFT_PRINT = 207,
+    /* Shifted redo: kRDO */
+    HUTTAVEL_KEY_SHIFT_REDO = 208,
+    /* Shifted replace: kRPL */
+    HUTTAVEL_KEY_SHIFT_REPLACE = 209,
+    /* Shifted right arrow: kRIT */
+    HUTTAVEL_KEY_SHIFT_RIGHT = 210,
+    /* Shifted resume: kRES */
+    HUTTAVEL_KEY_SHIFT_RESUME = 211,
+    /* Shifted save: kSAV */
+    HUTTAVEL_KEY_SHIFT_SAVE = 212,
+    /* Shifted suspend: kSPD */
+    HUTTAVEL_KEY_SHIFT_SUSPEND = 213,
+    /* Shifted undo: kUND */
+    HUTTAVEL_KEY_SHIFT_UNDO = 214,
+    /* What begins a report of the mouse: kmous */
+    HUTTAVEL_KEY_MOUSE = 355,
     /* Function keys 0 to 63: kf0 to kf63 */
     HUTTAVEL_KEY_F0 = 65,
     HUTTAVEL_KEY_F1 = 66,

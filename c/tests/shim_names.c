@@ -452,6 +452,11 @@ static void defining_keys(void)
     IS(KEY_UP, getch());
     IS(1000, getch());
     IS(27, getch());
+    /* Keys with shift are keys too. */
+    type("\033[1;2D\033[1;2C\033[3;2~");
+    IS(KEY_SLEFT, getch());
+    IS(KEY_SRIGHT, getch());
+    IS(KEY_SDC, getch());
     /* Without keypad() bytes are what they are. */
     keypad(stdscr, FALSE);
     type("ab");

@@ -5,10 +5,11 @@ use Rattle.scr_cells.specs.declared.sizes.Size.{Size}
 use Rattle.ti_caps.specs.Adapted.{colours_first, without_last_column, wraps_at_once}
 use Rattle.ti_caps.specs.Description.{Description}
 use Rattle.scr_term.specs.declared.operations.profile_faults.ProfileFault.TheVariants.{NoSize}
+use Rattle.scr_keys.specs.declared.sets.KeySet.{KeySet}
 use Rattle.curses.specs.declared.opening.Opening.{Opening}
 use Rattle.curses.specs.declared.faults.OpenFault.{OpenFault}
 use Rattle.curses.specs.declared.faults.OpenFault.TheVariants.{Profile}
-use Rattle.curses.specs.Opening.{IsOpenedAs, IsUnopened}
+use Rattle.curses.specs.Opening.{IsOpenedAs, IsUnopenedWith}
 use Rattle.curses.specs.ScreenStates.{ScreenState}
 
 -- An entry, and whether the last column was left out.
@@ -44,8 +45,8 @@ pub record IsOpenedAdapted (asked : Opening) (adapted : AdaptedView) (given : Op
   pub sized : IsAnySizeOn adapted.is_narrow given size
   pub opened : IsOpenedAs asked adapted.entry size screen
 
--- Why none was: the only column is left out, or it is as with the entry.
-abbrev pub IsUnopenedAdapted : AdaptedView → Option Size → OpenFault → Type 0
-IsUnopenedAdapted adapted given fault =
+-- Why none with these keys was: the only column is left out, or it is as with the entry.
+abbrev pub IsUnopenedAdapted : KeySet → AdaptedView → Option Size → OpenFault → Type 0
+IsUnopenedAdapted keys adapted given fault =
     (IsNothingLeft adapted.is_narrow given × (fault ≡ Profile NoSize))
-    ⊎ ((size : Option Size) × IsAnySizeOn adapted.is_narrow given size × IsUnopened adapted.entry size fault)
+    ⊎ ((size : Option Size) × IsAnySizeOn adapted.is_narrow given size × IsUnopenedWith keys adapted.entry size fault)

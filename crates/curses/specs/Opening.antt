@@ -11,6 +11,8 @@ use Rattle.scr_term.specs.Operations.Admission.{IsAdmittedAs, refusal}
 use Rattle.scr_windows.specs.DeskViews.{first_desk}
 use Rattle.scr_virtual.specs.VirtualViews.{blank_virtual}
 use Rattle.scr_memory.specs.Memories.{unknown}
+use Rattle.scr_keys.specs.declared.sets.KeySet.{KeySet}
+use Rattle.scr_keys.specs.declared.sets.KeySet.TheVariants.{Table}
 use Rattle.scr_keys.specs.Tables.{AreKeysOf, too_long}
 use Rattle.curses.specs.declared.opening.Opening.{Opening}
 use Rattle.curses.specs.declared.faults.OpenFault.{OpenFault}
@@ -18,9 +20,10 @@ use Rattle.curses.specs.declared.faults.OpenFault.TheVariants.{KeyTooLong, NoMem
 use Rattle.curses.specs.ScreenStates.{ScreenState}
 use Rattle.curses.specs.Texts.{texts_or_none}
 
--- How a screen is opened if nothing is asked for: the terminal has ASCII alone.
+-- How a screen is opened if nothing is asked for: the terminal has ASCII alone, and the keys are those of the capability
+-- table.
 abbrev pub default_opening : Opening
-default_opening = record { charset = Ascii }
+default_opening = record { charset = Ascii; keys = Table }
 
 -- A screen just opened on the terminal of an entry, as is asked for: one blank window over the whole screen, a blank
 -- virtual screen, nothing known of the terminal, nothing owed, the entry's keys with none pressed, and the opening and
@@ -31,7 +34,7 @@ pub record IsOpenedAs (asked : Opening) (entry : Description) (size : Option Siz
   pub virtual : screen.virtual ≡ blank_virtual screen.profile.rows screen.profile.columns
   pub memory : screen.memory ≡ unknown screen.profile.rows screen.profile.columns
   pub owed : screen.owed ≡ []
-  pub keys : AreKeysOf entry screen.keys.keys
+  pub keys : AreKeysOf asked.keys entry screen.keys.keys
   pub queue : screen.keys.queue ≡ []
   pub waiting : screen.keys.waiting ≡ []
   pub opening : screen.opening ≡ texts_or_none entry SMCUP SMKX
@@ -46,12 +49,16 @@ pub record IsUnsuited (entry : Description) (size : Option Size) (fault : Profil
   pub refused : refusal entry size ≡ Some fault
   pub suits : fault ≢ profile_faults.NoMemory
 
--- The entry gives a profile, but the text of a key is too long; `slot` is the lowest table position of such a key.
-abbrev pub HasLongKey : Description → Option Size → Slot → Type 0
-HasLongKey entry size slot = (refusal entry size ≡ None) × (too_long entry ≡ Some slot.0)
+-- The entry gives a profile, but the text of a key is too long; `slot` is the lowest position of such a key.
+abbrev pub HasLongKey : KeySet → Description → Option Size → Slot → Type 0
+HasLongKey keys entry size slot = (refusal entry size ≡ None) × (too_long keys entry ≡ Some slot.0)
 
--- Why no screen was opened: one of these reasons, or memory ran out.
+-- Why no screen with these keys was opened: one of these reasons, or memory ran out.
+abbrev pub IsUnopenedWith : KeySet → Description → Option Size → OpenFault → Type 0
+IsUnopenedWith keys entry size NoMemory = Unit {0}
+IsUnopenedWith keys entry size (Profile fault) = IsUnsuited entry size fault
+IsUnopenedWith keys entry size (KeyTooLong slot) = HasLongKey keys entry size slot
+
+-- The same if nothing is asked for.
 abbrev pub IsUnopened : Description → Option Size → OpenFault → Type 0
-IsUnopened entry size NoMemory = Unit {0}
-IsUnopened entry size (Profile fault) = IsUnsuited entry size fault
-IsUnopened entry size (KeyTooLong slot) = HasLongKey entry size slot
+IsUnopened entry size fault = IsUnopenedWith Table entry size fault

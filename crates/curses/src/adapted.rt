@@ -70,7 +70,7 @@ impl AdaptedEntry {
         opening: Opening,
     ) -> Result<Screen, OpenFault>
         ensures ok { IfOk result (IsOpenedAdapted opening self.now size) }
-        ensures err { IfErr result (IsUnopenedAdapted self.now size) }
+        ensures err { IfErr result (IsUnopenedAdapted opening.keys self.now size) }
         ensures suitable { IfOk result (λ _. IsSuitable self.now.entry) }
         ensures memory { IsErrOf result OpenFault.NoMemory → IsSuitable self.now.entry }
     {

@@ -25,7 +25,7 @@ pub use writers::{Counted, Device, Output};
 // What a program names besides: windows, cells and keys, terminals, and the operations and errors of updates; and for a
 // test without a terminal the emulated one.
 pub use scr_cells::{Attrs, Cell, Charset, Look, NoMemory, Picture, Size, is_character};
-pub use scr_keys::{Key, KeyFault, Typed, TypedItems, TypedReader, names as keys};
+pub use scr_keys::{Key, KeyFault, KeySet, Typed, TypedItems, TypedReader, names as keys};
 pub use scr_term::{Op, Ops, ProfileFault, Spot};
 pub use scr_terminal::{EcmaScreen, Undefined};
 pub use scr_windows::{Added, BOX, DOUBLE_BOX, ROUND_BOX, Win, WinFault, WindowRef};

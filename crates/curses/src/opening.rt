@@ -1,7 +1,7 @@
 //! Opening a screen on a terminal. The definitions are in `specs/Opening.antt`.
 ghost use Rattle.std.specs.Prelude.{◌≡◌, ◌≤◌, [], IfErr, IfOk, IsErrOf, None, Some, length, vec_capacity};
 ghost use Rattle.curses.specs.Code.Openings.{IsReaderOf, first_screen};
-ghost use Rattle.curses.specs.Opening.{IsOpened, IsOpenedAs, IsUnopened, default_opening};
+ghost use Rattle.curses.specs.Opening.{IsOpened, IsOpenedAs, IsUnopened, IsUnopenedWith, default_opening};
 ghost use Rattle.curses.specs.ScreenStates.{HasRoom, HasTextRoom};
 ghost use Rattle.curses.specs.Texts.{texts_or_none};
 ghost use Rattle.ti_caps.specs.declared.slots.TheConstants.{RMCUP, RMKX, SMCUP, SMKX};
@@ -14,7 +14,7 @@ use crate::faults::OpenFault;
 use crate::screens::Screen;
 use crate::texts::texts_or_none;
 use scr_cells::{Charset, NoMemory, Size};
-use scr_keys::{KeyFault, KeyReader, KeyTable};
+use scr_keys::{KeyFault, KeyReader, KeySet, KeyTable};
 use scr_memory::{Memory, memory_runs};
 use scr_plan::up_to_date_laws;
 use scr_term::{Profile, ProfileFault};
@@ -28,16 +28,29 @@ use ti_caps::{Entry, slots};
 pub struct Opening {
     /// The characters that the terminal is sent.
     pub charset: Charset,
+    /// Which texts of the entry are keys.
+    pub keys: KeySet,
 }
 
 impl Opening {
-    /// What `Screen::open` opens a screen with: the terminal has ASCII alone.
+    /// What `Screen::open` opens a screen with: the terminal has ASCII alone, and the keys are those of the capability
+    /// table.
     pub fn new() -> Opening
         ensures { result ≡ default_opening }
     {
         Opening {
             charset: Charset::Ascii,
+            keys: KeySet::Table,
         }
+    }
+}
+
+impl Default for Opening {
+    /// `Opening::new`.
+    fn default() -> Opening
+        ensures { result ≡ default_opening }
+    {
+        Opening::new()
     }
 }
 
@@ -66,7 +79,7 @@ impl Screen {
     ///
     /// With `Charset::Utf8` characters are sent in UTF-8, and the terminal has to show each of them in one column: some
     /// terminals can be set to show characters of ambiguous width in two. With `Charset::Ascii` what stands for them is
-    /// sent.
+    /// sent. With `KeySet::All` more of the entry's texts are keys: those with shift, and `kmous`.
     pub fn open_as(
         alloc: Global,
         entry: &Entry,
@@ -74,12 +87,12 @@ impl Screen {
         opening: Opening,
     ) -> Result<Screen, OpenFault>
         ensures ok { IfOk result (IsOpenedAs opening entry.now size) }
-        ensures err { IfErr result (IsUnopened entry.now size) }
+        ensures err { IfErr result (IsUnopenedWith opening.keys entry.now size) }
         ensures suitable { IfOk result (λ _. IsSuitable entry.now) }
         ensures memory { IsErrOf result OpenFault.NoMemory → IsSuitable entry.now }
     {
-        let profile = admitted(alloc, entry, size, opening.charset)?;
-        let keys = keys_of(alloc, entry, size)?;
+        let profile = admitted(alloc, entry, size, opening)?;
+        let keys = keys_of(alloc, entry, size, opening)?;
         let texts = texts_of(alloc, entry)?;
         let screen = Screen::on(alloc, profile, keys, texts)?;
         Ok(screen)
@@ -220,12 +233,17 @@ fn buffer_for(alloc: Global, profile: &Profile, texts: &Texts) -> Result<Vec<u8>
 }
 
 // A reader for the keys of an entry that has made a profile.
-fn keys_of(alloc: Global, entry: &Entry, size: Option<Size>) -> Result<KeyReader, OpenFault>
+fn keys_of(
+    alloc: Global,
+    entry: &Entry,
+    size: Option<Size>,
+    opening: Opening,
+) -> Result<KeyReader, OpenFault>
     requires { refusal entry.now size ≡ None }
-    ensures ok { IfOk result (IsReaderOf entry.now) }
-    ensures err { IfErr result (IsUnopened entry.now size) }
+    ensures ok { IfOk result (IsReaderOf opening.keys entry.now) }
+    ensures err { IfErr result (IsUnopenedWith opening.keys entry.now size) }
 {
-    let table = match KeyTable::of(alloc, entry) {
+    let table = match KeyTable::of_set(alloc, entry, opening.keys) {
         Ok(table) => table,
         Err(KeyFault::KeyTooLong(slot)) => return Err(OpenFault::KeyTooLong(slot)),
         Err(_) => return Err(OpenFault::NoMemory),
@@ -241,14 +259,14 @@ fn admitted(
     alloc: Global,
     entry: &Entry,
     size: Option<Size>,
-    charset: Charset,
+    opening: Opening,
 ) -> Result<Profile, OpenFault>
-    ensures ok { IfOk result (IsAdmittedAs charset entry.now size) }
-    ensures err { IfErr result (IsUnopened entry.now size) }
+    ensures ok { IfOk result (IsAdmittedAs opening.charset entry.now size) }
+    ensures err { IfErr result (IsUnopenedWith opening.keys entry.now size) }
     ensures suitable { IfOk result (λ _. IsSuitable entry.now) }
     ensures memory { IsErrOf result OpenFault.NoMemory → IsSuitable entry.now }
 {
-    match Profile::admit_as(alloc, entry, size, charset) {
+    match Profile::admit_as(alloc, entry, size, opening.charset) {
         Ok(profile) => Ok(profile),
         Err(ProfileFault::NoMemory) => Err(OpenFault::NoMemory),
         Err(fault) => Err(OpenFault::Profile(fault)),

@@ -8,7 +8,7 @@ use crate::editor::{Editor, Mode};
 use crate::failures::EditFailure;
 use crate::living::Session;
 use crate::messages::Message;
-use curses::{Charset, Device, EcmaScreen, Key, Opening, Screen, Size, bundled};
+use curses::{Charset, Device, EcmaScreen, Key, KeySet, Opening, Screen, Size, bundled};
 use program_input::{InputFault, read_input};
 use screen_scripts::print_screen;
 use std::alloc::Global;
@@ -152,7 +152,11 @@ fn play_at(
 // A terminal of this size with nothing on it.
 fn new_terminal(alloc: Global, size: Size, charset: Charset) -> Result<Emulated, EditFailure> {
     let entry = bundled(alloc)?;
-    let screen = Screen::open_as(alloc, &entry, Some(size), Opening { charset })?;
+    let opening = Opening {
+        charset,
+        keys: KeySet::All,
+    };
+    let screen = Screen::open_as(alloc, &entry, Some(size), opening)?;
     let terminal = EcmaScreen::new_as(alloc, size, charset)?;
     Ok(Emulated {
         screen,

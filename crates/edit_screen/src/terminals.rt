@@ -3,12 +3,13 @@
 use crate::editor::Editor;
 use crate::failures::EditFailure;
 use crate::living::Session;
-use curses::{Charset, Opening, bundled};
+use curses::{Charset, KeySet, Opening, bundled};
 use terminal::{TerminalFault, TerminalScreen};
 
 // How a screen is opened on a terminal that speaks UTF-8.
 const UTF8: Opening = Opening {
     charset: Charset::Utf8,
+    keys: KeySet::All,
 };
 
 /// The terminal that an editor is run on.

@@ -4,7 +4,8 @@ use check_harness::buffers::Buffer;
 use check_harness::troubles::Trouble;
 use check_harness::words::Words;
 use std::alloc::Global;
-use ti_caps::{CapFault, Entry, Kind, Slot, bundled, find_name};
+use ti_caps::standard::find_name;
+use ti_caps::{CapFault, Entry, Kind, Slot, bundled};
 
 /// The names and texts of the capabilities that insert and delete lines and characters, as a line has them.
 pub static MOVING: &str =

@@ -12,7 +12,7 @@ use check_harness::buffers::Buffer;
 use check_harness::random::Random;
 use check_harness::troubles::Trouble;
 use check_harness::words::{Line, Words};
-use curses::Opening;
+use curses::{KeySet, Opening};
 use scr_cells::{Charset, Size};
 use scr_term::Op;
 use std::alloc::Global;
@@ -110,6 +110,7 @@ pub fn opening_of(name: &str) -> Opening {
         } else {
             Charset::Ascii
         },
+        keys: KeySet::Table,
     }
 }
 

@@ -2,7 +2,7 @@
 #![tactic(auto)]
 
 use anyhow::Result;
-use curses::{Attrs, BOX, Charset, Opening, Screen, Win, WinFault, bundled};
+use curses::{Attrs, BOX, Charset, KeySet, Opening, Screen, Win, WinFault, bundled};
 use terminal::{Event, Program, TerminalScreen};
 
 #[derive(Drop)]
@@ -27,10 +27,13 @@ impl Program for Greeting {
 }
 
 fn main(rt: HostRuntime) -> Result<()> {
-    let charset = Charset::Utf8;
+    let opening = Opening {
+        charset: Charset::Utf8,
+        keys: KeySet::All,
+    };
     let mut terminal = match std::env::args(&rt)?.count() {
         0 | 1 => TerminalScreen::open(&rt)?,
-        _ => TerminalScreen::open_entry_as(&rt, bundled(rt.alloc())?, Opening { charset })?,
+        _ => TerminalScreen::open_entry_as(&rt, bundled(rt.alloc())?, opening)?,
     };
     Ok(terminal.run(&rt, &mut Greeting)?)
 }

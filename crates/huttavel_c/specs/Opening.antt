@@ -13,6 +13,8 @@ use Rattle.ti_caps.specs.declared.table.Kind.{Kind}
 use Rattle.ti_caps.specs.declared.table.Kind.TheVariants.{Flag, Number, Text}
 use Rattle.ti_caps.specs.declared.table.Slot.{Slot}
 use Rattle.ti_database.specs.Search.{IsEntry, entry_refusal}
+use Rattle.scr_keys.specs.declared.sets.KeySet.TheVariants.{All}
+use Rattle.curses.specs.declared.opening.Opening.{Opening}
 use Rattle.curses.specs.Adapted.{IsOpenedAdapted, IsUnopenedAdapted, adapted}
 use Rattle.curses.specs.declared.faults.OpenFault.{OpenFault}
 use Rattle.curses.specs.declared.faults.OpenFault.TheVariants.{KeyTooLong, NoMemory, Profile}
@@ -77,16 +79,20 @@ IsNoEntry bytes reply =
 abbrev pub fresh_writer : WriterView
 fresh_writer = record { taken = Some []; failed_puts = 0; failed_finishes = 0 }
 
+-- How a session's screen is opened: with all keys.
+abbrev pub asked_in : Charset → Opening
+asked_in charset = record { charset = charset; keys = All }
+
 -- A screen just opened on a terminal of this size, which is sent characters of this charset, on its entry as programs
 -- take it.
 abbrev pub IsOpenedOn : Charset → Description → Option Size → Session → Type 0
 IsOpenedOn charset entry size session =
-    IsOpenedAdapted (record { charset = charset }) (adapted entry) size session.screen × (writer session ≡ fresh_writer)
+    IsOpenedAdapted (asked_in charset) (adapted entry) size session.screen × (writer session ≡ fresh_writer)
 
 -- None was opened. Memory runs out only for an entry that is not Unsuitable.
 abbrev pub IsUnopenedOn : Description → Option Size → Reply → Type 0
 IsUnopenedOn entry size reply =
-    (fault : OpenFault) × IsUnopenedAdapted (adapted entry) size fault × (fault ≡ NoMemory → IsSuitable (adapted entry).entry) × (reply ≡ open_reply fault)
+    (fault : OpenFault) × IsUnopenedAdapted All (adapted entry) size fault × (fault ≡ NoMemory → IsSuitable (adapted entry).entry) × (reply ≡ open_reply fault)
 
 -- A screen just opened on the terminal of an entry that is known so, of the size that is given.
 pub record IsOpenedFrom (IsKnown : Description → Type 0) (charset : Charset) (rows columns : ℕ) (session : Session) : Type 0 where

@@ -5,7 +5,7 @@ ghost use Rattle.scr_term.specs.Operations.Admission.{IsSuitable};
 ghost use Rattle.ti_caps.specs.Bundled.{IsBundled};
 ghost use Rattle.ti_database.specs.Search.{IsEntry};
 ghost use Rattle.huttavel_c.specs.Asking.{OfScreen};
-ghost use Rattle.huttavel_c.specs.Opening.{IsClosedFrom, IsNoEntry, IsNoMemory, IsNoSize, IsOpenedFrom, IsOpenedOn, IsSizeGiven, IsUnopenedOn, OpensAs, about, charset_given, close_number, fresh_writer, kind_number, open_reply, profile_reply};
+ghost use Rattle.huttavel_c.specs.Opening.{IsClosedFrom, IsNoEntry, IsNoMemory, IsNoSize, IsOpenedFrom, IsOpenedOn, IsSizeGiven, IsUnopenedOn, OpensAs, about, asked_in, charset_given, close_number, fresh_writer, kind_number, open_reply, profile_reply};
 ghost use Rattle.huttavel_c.specs.Replies.{refused};
 ghost use Rattle.huttavel_c.specs.Sending.{writer};
 
@@ -16,8 +16,8 @@ use crate::faults::{
 use crate::handles::Handle;
 use crate::sessions::{Kept, Session};
 use curses::{
-    AdaptedEntry, Charset, Device, Entry, Kind, OpenFault, Opening, ProfileFault, Screen, Size,
-    Slot, bundled,
+    AdaptedEntry, Charset, Device, Entry, KeySet, Kind, OpenFault, Opening, ProfileFault, Screen,
+    Size, Slot, bundled,
 };
 use std::alloc::Global;
 use ti_database::read_entry;
@@ -146,13 +146,17 @@ fn screen_on(
     charset: Charset,
     size: Option<Size>,
 ) -> Result<Screen, OpenFault>
-    ensures ok { IfOk result (IsOpenedAdapted (record { charset = charset }) (adapted entry) size) }
-    ensures err { IfErr result (IsUnopenedAdapted (adapted entry) size) }
+    ensures ok { IfOk result (IsOpenedAdapted (asked_in charset) (adapted entry) size) }
+    ensures err { IfErr result (IsUnopenedAdapted KeySet.All (adapted entry) size) }
     ensures suitable { IfOk result (λ _. IsSuitable (adapted entry).entry) }
     ensures memory { IsErrOf result OpenFault.NoMemory → IsSuitable (adapted entry).entry }
 {
     let adapted = AdaptedEntry::of(entry);
-    adapted.open(alloc, size, Opening { charset })
+    let opening = Opening {
+        charset,
+        keys: KeySet::All,
+    };
+    adapted.open(alloc, size, opening)
 }
 
 // A session on the terminal of an entry.

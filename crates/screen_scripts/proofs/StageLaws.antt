@@ -8,6 +8,7 @@ use Rattle.scr_cells.specs.PictureViews.{IsSize}
 use Rattle.scr_cells.specs.declared.sizes.Size.{Size}
 use Rattle.ti_caps.specs.Bundled.{IsBundled, bundled_texts, listed}
 use Rattle.ti_caps.specs.Description.{Description, text_at}
+use Rattle.scr_keys.specs.declared.sets.KeySet.TheVariants.{Table}
 use Rattle.scr_keys.specs.Tables.{is_key, keys_below, keys_of, text_of_key, with_key, without_padding}
 use Rattle.scr_term.specs.Operations.Admission.{IsAdmittedAs, IsEcma48, admitted}
 use Rattle.scr_term.specs.Operations.Ecma48.{Ecma48Laws, ecma48_profile}
@@ -31,13 +32,13 @@ use Rattle.screen_scripts.specs.Showing.{IsFirst, IsReadyStage, IsTerminalFor, O
 texts_are : (slot : ℕ) → slot < 512 → text_at bundled_description slot ≡ listed bundled_texts slot
 texts_are slot few = get_or-map-range_with_len (listed bundled_texts) 0 512 slot slot None few (omega arith)
 
-same_below : (a b : Description) (n : ℕ) → ((slot : ℕ) → slot < n → text_at a slot ≡ text_at b slot) → keys_below a n ≡ keys_below b n
+same_below : (a b : Description) (n : ℕ) → ((slot : ℕ) → slot < n → text_at a slot ≡ text_at b slot) → keys_below Table a n ≡ keys_below Table b n
 same_below a b zero same = refl
 same_below a b (suc n) same =
-    ap (λ keys. with_key keys (text_of_key a n) n) (same_below a b n (λ slot few. same slot (omega (arith, few))))
-    ∙ ap (λ text. with_key (keys_below b n) (if is_key n then without_padding text else []) n) (same n (omega arith))
+    ap (λ keys. with_key keys (text_of_key Table a n) n) (same_below a b n (λ slot few. same slot (omega (arith, few))))
+    ∙ ap (λ text. with_key (keys_below Table b n) (if is_key Table n then without_padding text else []) n) (same n (omega arith))
 
-keys_are : (entry : Description) → IsBundled entry → keys_of entry ≡ bundled_keys
+keys_are : (entry : Description) → IsBundled entry → keys_of Table entry ≡ bundled_keys
 unfolding keys_of bundled_keys
 keys_are entry is = same_below entry bundled_description 512 (λ slot few. is.texts slot ∙ sym (texts_are slot few))
 

@@ -5,6 +5,7 @@ use Rattle.scr_cells.specs.declared.charsets.Charset.{Charset}
 use Rattle.scr_cells.specs.declared.sizes.Size.{Size}
 use Rattle.ti_caps.specs.Bundled.{IsBundled}
 use Rattle.ti_caps.specs.Description.{Description}
+use Rattle.scr_keys.specs.declared.sets.KeySet.TheVariants.{Table}
 use Rattle.curses.specs.Opening.{IsOpenedAs}
 use Rattle.curses.specs.ScreenStates.{ScreenState}
 use Rattle.screen_scripts.specs.declared.commands.Command.{Command}
@@ -47,4 +48,4 @@ pub record CommandRefuses (old : ScreenState) (command : Command) (before after 
 pub record IsOpenedOn (charset : Charset) (size : Size) (screen : ScreenState) : Type 0 where
   pub entry : Description
   pub bundled : IsBundled entry
-  pub is : IsOpenedAs (record { charset = charset }) entry (Some size) screen
+  pub is : IsOpenedAs (record { charset = charset; keys = Table }) entry (Some size) screen

@@ -5,6 +5,7 @@ use Rattle.std.specs.List.{range_with_len}
 use Rattle.std.specs.Str.{chars, is_utf8}
 use Rattle.scr_keys.specs.Keys.{Keys}
 use Rattle.scr_keys.specs.Readers.{ReaderView, byte_read, idle_read}
+use Rattle.scr_keys.specs.declared.sets.KeySet.TheVariants.{Table}
 use Rattle.scr_keys.specs.Tables.{keys_of}
 use Rattle.scr_keys.specs.declared.faults.KeyFault.{KeyFault}
 use Rattle.scr_keys.specs.declared.faults.KeyFault.TheVariants as key_faults
@@ -161,9 +162,9 @@ idled stage = followed (after_read stage (idle_read stage.keys)) keys_taken
 abbrev pub bundled_description : Description
 bundled_description = record (bare bundled_names) { texts = map (listed bundled_texts) (range_with_len 0 512) }
 
--- The keys of the bundled entry.
+-- The keys of the bundled entry, by the names of the capability table.
 unfoldable pub bundled_keys : Keys
-bundled_keys = keys_of bundled_description
+bundled_keys = keys_of Table bundled_description
 
 -- The stage that a size opens: one blank window over the whole screen, and no key pressed.
 abbrev pub first_stage : ℕ → ℕ → Stage

@@ -6,7 +6,7 @@ ghost use Rattle.screen_scripts.specs.Running.{IsOpenedOn};
 
 use crate::commands::Command;
 use crate::line_faults::LineFault;
-use curses::{Opening, Screen};
+use curses::{KeySet, Opening, Screen};
 use scr_cells::{Charset, NoMemory, Size};
 use scr_memory::memory_runs;
 use scr_term::{blank_laws, bundled_is_ecma48, ecma48_laws};
@@ -59,7 +59,11 @@ fn open_screen(alloc: Global, charset: Charset, size: Size) -> Result<Screen, No
     let Ok(entry) = bundled(alloc) else {
         return Err(NoMemory);
     };
-    match Screen::open_as(alloc, &entry, Some(size), Opening { charset }) {
+    let opening = Opening {
+        charset,
+        keys: KeySet::Table,
+    };
+    match Screen::open_as(alloc, &entry, Some(size), opening) {
         Ok(screen) => Ok(screen),
         Err(_) => Err(NoMemory),
     }

@@ -339,7 +339,7 @@ pub record AreMade (old new : ScreenState) (calls : List Call) (before after : W
 pub record IsReportAs (asked : Opening) (entry : Description) (size : Option Size) (calls : List Call) (old new : WriterView) (report : Report) : Type 0 where
   pub profile : ProfileView
   pub admitted : IsAdmittedAs asked.charset entry size profile
-  pub keys : too_long entry ≡ None
+  pub keys : too_long asked.keys entry ≡ None
   pub taken : List ℕ
   pub writer : Appends old.taken new.taken taken
   pub session : IsSession profile (fresh_beginning profile) calls report.answers taken

@@ -3,7 +3,7 @@ ghost use Rattle.std.specs.Prelude.{◌≡◌, IfErr, IfOk, IsErrOf, OnErr, fals
 ghost use Rattle.screen_sessions.specs.declared.calls.Call.TheVariants.{Doupdate};
 ghost use Rattle.screen_sessions.specs.Code.Progress.{AreMadeAfresh, IsFresh};
 ghost use Rattle.screen_sessions.specs.Making.{IsMade};
-ghost use Rattle.curses.specs.Opening.{IsUnopened};
+ghost use Rattle.curses.specs.Opening.{IsUnopened, IsUnopenedWith};
 ghost use Rattle.scr_term.specs.Operations.Admission.{IsSuitable};
 ghost use Rattle.screen_sessions.specs.Sessions.{AreMade, DisturbedRowsHoldAgain, IsReport, IsReportAs, ended_well, is_update};
 
@@ -75,7 +75,7 @@ pub fn session_as<W: Counted>(
     out: &mut W,
 ) -> Result<Report, OpenFault>
     ensures ok { IfOk result (IsReportAs opened.1 entry.now opened.0 calls.now (W.told out.old) (W.told out.new)) }
-    ensures err { IfErr result (IsUnopened entry.now opened.0) }
+    ensures err { IfErr result (IsUnopenedWith opened.1.keys entry.now opened.0) }
     ensures memory { IsErrOf result OpenFault.NoMemory → IsSuitable entry.now }
     ensures untouched { OnErr result (out.new ≡ out.old) }
 {

@@ -1,6 +1,6 @@
 //! Running a script up to its last update.
 
-use curses::{Device, Opening, Screen};
+use curses::{Device, KeySet, Opening, Screen};
 use scr_cells::{Charset, NoMemory, Size};
 use scr_term::{Op, Ops, Profile};
 use scr_terminal::Terminal;
@@ -36,7 +36,10 @@ pub fn open(alloc: Global, charset: Charset, size: Size) -> Result<LastUpdate, N
     };
     let profile = Profile::admit_as(alloc, &entry, Some(size), charset).map_err(|_| NoMemory)?;
     let terminal = Terminal::new(alloc, size)?;
-    let opening = Opening { charset };
+    let opening = Opening {
+        charset,
+        keys: KeySet::Table,
+    };
     let screen = Screen::open_as(alloc, &entry, Some(size), opening).map_err(|_| NoMemory)?;
     Ok(LastUpdate {
         screen,

@@ -3,7 +3,7 @@ ghost use Rattle.std.specs.Prelude.{MatchBool};
 ghost use Rattle.scr_cells.specs.Characters.{is_utf8};
 ghost use Rattle.terminal.specs.Locales.{HasCodeset, IsUtf8Codeset, SaysUtf8};
 
-use curses::{Charset, Opening};
+use curses::{Charset, KeySet, Opening};
 use scr_cells::NoMemory;
 use std::env;
 use std::env::VarError;
@@ -12,8 +12,8 @@ use std::rt::Env;
 // What names the locale of characters, the first that does so first (X/Open Base Definitions, 8.2).
 const NAMES: [&str; 3] = ["LC_ALL", "LC_CTYPE", "LANG"];
 
-/// How a screen is opened where a program says nothing of it: in UTF-8 where the locale says so. Fails only when memory
-/// runs out.
+/// How a screen is opened where a program says nothing of it: in UTF-8 where the locale says so, with all keys. Fails
+/// only when memory runs out.
 pub(crate) fn opening_of_locale<R: Env + AllocGlobal>(rt: &R) -> Result<Opening, NoMemory> {
     for name in NAMES {
         match env::var(rt, name) {
@@ -24,11 +24,14 @@ pub(crate) fn opening_of_locale<R: Env + AllocGlobal>(rt: &R) -> Result<Opening,
             Err(VarError::NotUnicode) => break,
         }
     }
-    Ok(Opening::new())
+    Ok(opening_in(Charset::Ascii))
 }
 
 fn opening_in(charset: Charset) -> Opening {
-    Opening { charset }
+    Opening {
+        charset,
+        keys: KeySet::All,
+    }
 }
 
 // The charset of a locale of this name.

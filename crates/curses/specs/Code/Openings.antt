@@ -6,6 +6,7 @@ use Rattle.scr_windows.specs.DeskViews.{first_desk}
 use Rattle.scr_virtual.specs.VirtualViews.{blank_virtual}
 use Rattle.scr_memory.specs.Memories.{unknown}
 use Rattle.scr_keys.specs.Readers.{ReaderView}
+use Rattle.scr_keys.specs.declared.sets.KeySet.{KeySet}
 use Rattle.scr_keys.specs.Tables.{AreKeysOf}
 use Rattle.curses.specs.ScreenStates.{ScreenState}
 
@@ -22,8 +23,8 @@ first_screen profile keys opening closing = record {
   closing = closing;
 }
 
--- a reader of an entry's keys, which has read nothing
-pub record IsReaderOf (entry : Description) (reader : ReaderView) : Type 0 where
-  pub keys : AreKeysOf entry reader.keys
+-- a reader of these keys of an entry, which has read nothing
+pub record IsReaderOf (set : KeySet) (entry : Description) (reader : ReaderView) : Type 0 where
+  pub keys : AreKeysOf set entry reader.keys
   pub queue : reader.queue ≡ []
   pub waiting : reader.waiting ≡ []
