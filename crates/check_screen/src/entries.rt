@@ -8,7 +8,8 @@ use check_harness::words::{Line, Words};
 use curses::{OpenFault, closing_text, opening_text};
 use generated_sessions::change_capability;
 use scr_term::ProfileFault;
-use ti_caps::{Bytes, CapFault, Entry, Kind, bundled, find_name, name_of};
+use ti_caps::standard::find_name;
+use ti_caps::{Bytes, CapFault, Entry, Kind, bundled, name_of};
 
 /// The lines `entry TEXT`, `bundled`, `flag NAME`, `number NAME N`, `string NAME TEXT`, `text NAME TEXT` and `absent
 /// NAME`, which make an entry and have it say something, and `opening_text` and `closing_text`. Tells whether a line is

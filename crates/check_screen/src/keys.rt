@@ -6,9 +6,9 @@ use check_harness::answers::{add_number, add_word};
 use check_harness::buffers::Buffer;
 use check_harness::troubles::Trouble;
 use check_harness::words::{Line, Words};
-use curses::{OpenFault, Screen};
-use scr_cells::Size;
-use scr_keys::{Key, KeyFault, KeyReader, KeyTable, Typed, TypedItems, TypedReader};
+use curses::{OpenFault, Opening, Screen};
+use scr_cells::{Charset, Size};
+use scr_keys::{Key, KeyFault, KeyReader, KeySet, KeyTable, Typed, TypedItems, TypedReader};
 use std::alloc::Global;
 use ti_caps::{Entry, Slot};
 
@@ -44,12 +44,12 @@ impl Keyboard {
     }
 }
 
-/// The lines `reader` and `screen`, which open a keyboard, and `beside reader` and `beside screen`, which open one
-/// beside it; `byte BYTE`, `bytes TEXT`, `idle`, and `keys`, which takes all keys that wait, or has `none`; `typed`, which
+/// The lines `reader` and `screen`, which open a keyboard, `full_reader` and `full_screen`, which open one of all names
+/// of term.h, and `beside` and one of these words, which opens one beside it; `byte BYTE`, `bytes TEXT`, `idle`, and `keys`, which takes all keys that wait, or has `none`; `typed`, which
 /// has what is typed by what arrives; and `typed_texts`. Tells whether a line is one of them.
 pub fn answer_of_keys(subjects: &mut Subjects, line: &mut Line<'_>) -> Result<bool, Trouble> {
     match (line.name, &subjects.entry) {
-        ("reader" | "screen", Some(entry)) => {
+        ("reader" | "full_reader" | "screen" | "full_screen", Some(entry)) => {
             open(entry, line.name, &mut subjects.keyboard, line);
         }
         ("beside", Some(entry)) => {
@@ -66,12 +66,14 @@ pub fn answer_of_keys(subjects: &mut Subjects, line: &mut Line<'_>) -> Result<bo
     Ok(true)
 }
 
-// Opens a keyboard in place of another, by the word `reader`, or on a screen. A function that owns a keyboard takes
-// long to prove, so there is this one alone.
+// Opens a keyboard in place of another, by the word `reader` or `full_reader`, or on a screen. A function that owns a
+// keyboard takes long to prove, so there is this one alone.
 fn open(entry: &Entry, name: &str, keyboard: &mut Option<Keyboard>, line: &mut Line<'_>) {
     let opened = match name {
-        "reader" => open_reader(line.alloc, entry),
-        _ => open_screen(line.alloc, entry),
+        "reader" => open_reader(line.alloc, entry, KeySet::Table),
+        "full_reader" => open_reader(line.alloc, entry, KeySet::All),
+        "screen" => open_screen(line.alloc, entry, KeySet::Table),
+        _ => open_screen(line.alloc, entry, KeySet::All),
     };
     let got = &mut line.got;
     match opened {
@@ -82,16 +84,23 @@ fn open(entry: &Entry, name: &str, keyboard: &mut Option<Keyboard>, line: &mut L
     }
 }
 
-fn open_reader(alloc: Global, entry: &Entry) -> Result<Keyboard, OpenFault> {
-    match KeyTable::of(alloc, entry).and_then(|table| KeyReader::new(alloc, table)) {
+fn open_reader(alloc: Global, entry: &Entry, set: KeySet) -> Result<Keyboard, OpenFault> {
+    let table = match set {
+        KeySet::Table => KeyTable::of(alloc, entry),
+        KeySet::All => KeyTable::of_all(alloc, entry),
+    };
+    match table.and_then(|table| KeyReader::new(alloc, table)) {
         Ok(reader) => Ok(Keyboard::Reader(reader)),
         Err(KeyFault::KeyTooLong(slot)) => Err(OpenFault::KeyTooLong(slot)),
         Err(_) => Err(OpenFault::NoMemory),
     }
 }
 
-fn open_screen(alloc: Global, entry: &Entry) -> Result<Keyboard, OpenFault> {
-    Ok(Keyboard::Screen(Screen::open(alloc, entry, Size::new(2, 5))?))
+fn open_screen(alloc: Global, entry: &Entry, keys: KeySet) -> Result<Keyboard, OpenFault> {
+    let charset = Charset::Ascii;
+    let opening = Opening { charset, keys };
+    let screen = Screen::open_as(alloc, entry, Size::new(2, 5), opening)?;
+    Ok(Keyboard::Screen(screen))
 }
 
 fn answer_of_keyboard(keyboard: &mut Keyboard, line: &mut Line<'_>) -> bool {
