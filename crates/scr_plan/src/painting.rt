@@ -199,6 +199,20 @@ impl Painter {
         self.charset.seen(cell)
     }
 
+    // What writes the character that is seen of a cell. Most are of ASCII: with either charset they are seen as they are.
+    #[inline(always)]
+    #[tactic(auto, unfolding(scr_term::specs::Operations::Texts::put_of))]
+    pub(crate) fn written(self, cell: Cell) -> Op
+        ensures { result ≡ put_of (seen_character self.charset cell.character) }
+    {
+        character_laws();
+        let code = cell.code();
+        if code < 128 {
+            return Op::Put(code as u8);
+        }
+        written_by(self.code_of(cell))
+    }
+
     // The pen that a cell is seen with.
     #[inline(always)]
     pub(crate) fn pen_of(self, picture: &Picture, cell: Cell) -> Pen

@@ -11,7 +11,6 @@ ghost use Rattle.scr_plan.specs.Code.Scenes.{IsScene};
 
 use crate::joining::{price_of, price_of_one, spot_after};
 use crate::looking::cell_in;
-use crate::painting::written_by;
 use crate::scenes::Scene;
 use scr_cells::{Look, NoMemory, Pen, grid_laws};
 use scr_prices::{Cursor, Target};
@@ -197,7 +196,7 @@ impl Draft {
         self.ops.reserve((end - column) as usize)?;
         for place in column..end {
             self.ops
-                .push_reserved(written_by(scene.painter.code_of(cell_in(cells, place))));
+                .push_reserved(scene.painter.written(cell_in(cells, place)));
         }
         Ok(())
     }

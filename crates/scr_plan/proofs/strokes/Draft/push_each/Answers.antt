@@ -20,9 +20,9 @@ loop-place-preserved c =
     record {
       put =
           put_more c.run_laws.ensures c.profiles_have.ensures c.grid_laws.ensures _ c.size-size.ensures.profile _ c.size-picture.ensures.picture c.requires.scene.fits _ c.requires.scene.painter c.args.row c.args.column c.loop-place.place
-          c.requires.row low (omega (arith, c.loop-place-test.true, c.requires.end)) c.code_of.result c.args.self.now c.loop-place.self _ (c.requires.pen c.loop-place.place low c.loop-place-test.true)
-          (c.code_of.ensures.value ∙ ap (λ cell. seen_character c.args.scene.now.painter.charset cell.character) c.cell_in.ensures ∙ ap (λ look. look.character) (look_by c.args.scene.now.painter c.args.scene.now.picture.now c.args.row c.loop-place.place c.row-cells.result.now c.row-cells.ensures.cells))
-          (c.push_reserved.ensures.items ∙ ap (λ op. c.loop-place.self.ops.items ++ op ∷ []) c.written_by.ensures) refl refl refl refl c.loop-place.invariant.put;
+          c.requires.row low (omega (arith, c.loop-place-test.true, c.requires.end)) (seen_character c.args.scene.now.painter.charset c.cell_in.result.character) c.args.self.now c.loop-place.self _ (c.requires.pen c.loop-place.place low c.loop-place-test.true)
+          (ap (λ cell. seen_character c.args.scene.now.painter.charset cell.character) c.cell_in.ensures ∙ ap (λ look. look.character) (look_by c.args.scene.now.painter c.args.scene.now.picture.now c.args.row c.loop-place.place c.row-cells.result.now c.row-cells.ensures.cells))
+          (c.push_reserved.ensures.items ∙ ap (λ op. c.loop-place.self.ops.items ++ op ∷ []) c.written.ensures) refl refl refl refl c.loop-place.invariant.put;
       room = omega (arith, c.loop-place.invariant.room, c.push_reserved.ensures.len, c.push_reserved.ensures.capacity, c.loop-place-test.true);
     }
 
