@@ -1,5 +1,5 @@
 -- What a screen remembers of its terminal goes on to hold.
-use Rattle.std.proofs.Common.{◌≡◌, ℕ, ◌+◌, ◌&&◌, sym, ◌∙◌, List}
+use Rattle.std.proofs.Common.{◌≡◌, ℕ, sym, ◌∙◌, List}
 use Rattle.scr_term.specs.declared.operations.operation.Op.{Op}
 use Rattle.scr_term.specs.Operations.Profiles.{ProfileView, IsProfile, abilities}
 use Rattle.scr_cells.specs.PictureViews.{IsPicture}

@@ -1,6 +1,6 @@
 -- Screens on an entry as programs take it: colours first, and without a last column that would scroll. terminfo(5),
 -- 'Color Handling', 'Basic Capabilities'.
-use Rattle.std.specs.Prelude.{ℕ, ◌≡◌, ◌+◌, ◌⊎◌, Bool, true, false, Option, Some, None}
+use Rattle.std.specs.Prelude.{◌≡◌, ◌+◌, ◌⊎◌, Bool, true, false, Option, Some, None}
 use Rattle.scr_cells.specs.declared.sizes.Size.{Size}
 use Rattle.ti_caps.specs.Adapted.{colours_first, without_last_column, wraps_at_once}
 use Rattle.ti_caps.specs.Description.{Description}
