@@ -15,10 +15,12 @@ pub use faults::SourceFault;
 pub use note::{Cause, Note};
 pub use notes::{NoteView, Notes};
 pub use printing::printer::{
-    Printed, numbers_read_back, print, printed_reads_back, texts_read_back,
+    Printed, numbers_read_back, print, printed_reads_back, push_escaped, texts_read_back,
 };
-pub use reading::escape::texts_are_spelled;
-pub use reading::field::fields_are_cut;
+pub use reading::escape::{decode, texts_are_spelled};
+pub use reading::field::{Form, fields_are_cut, form_of, split_field};
+pub use reading::line::Line;
+pub use reading::lines::Lines;
 pub use reading::reader::{read, read_apart};
 pub use resolving::resolver::{
     Resolver, entries_pass_on, names_have_one_fault, names_resolve_once, resolve,

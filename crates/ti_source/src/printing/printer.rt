@@ -73,7 +73,8 @@ fn push_byte(out: &mut Vec<u8>, b: u8) -> Result<(), AllocError>
     }
 }
 
-fn push_escaped(out: &mut Vec<u8>, text: &[u8]) -> Result<(), AllocError>
+/// Appends a text as it is written in a string field: with an escape for each byte that would not stand for itself.
+pub fn push_escaped(out: &mut Vec<u8>, text: &[u8]) -> Result<(), AllocError>
     ensures { OnOk result (out.new.items ≡ out.old.items ++ printed_text text.now) }
 {
     for b in text {

@@ -9,8 +9,8 @@ ghost use Rattle.ti_source.specs.Reading.Spelling.{AreSpelled};
 use std::alloc::{AllocError, Global};
 use ti_caps::Bytes;
 
-/// The text that a string field means.
-pub(crate) fn decode(alloc: Global, text: &[u8]) -> Result<Bytes, AllocError>
+/// The text that a string field means (terminfo(5), "Types of Capabilities"). Fails only when memory runs out.
+pub fn decode(alloc: Global, text: &[u8]) -> Result<Bytes, AllocError>
     ensures value { IfOk result (λ bytes. bytes ≡ decoded text.now) }
     ensures whole { IfOk result (λ bytes. has_nul bytes ≡ false) }
 {

@@ -7,18 +7,25 @@ ghost use Rattle.ti_source.specs.Code.Plain.{is_inner};
 ghost use Rattle.ti_source.specs.Code.Seen.{seen_form};
 
 /// A field by its form.
-pub(crate) enum Form<'a> {
+pub enum Form<'a> {
+    /// Nothing, or a field that a full stop leaves out.
     Nothing,
+    /// A name alone.
     Plain(&'a [u8]),
+    /// A name, and what follows its `#`.
     Numeric(&'a [u8], &'a [u8]),
+    /// A name, and what follows its `=`, not decoded yet.
     Textual(&'a [u8], &'a [u8]),
+    /// A name that `@` ends.
     Cancelled(&'a [u8]),
+    /// The name of another entry, after `use=`.
     Refers(&'a [u8]),
+    /// A name, and more than `@` after it.
     Odd(&'a [u8]),
 }
 
 /// The first field of a text, and what follows its comma if there is one.
-pub(crate) fn split_field(bytes: &[u8]) -> (&[u8], Option<&[u8]>)
+pub fn split_field(bytes: &[u8]) -> (&[u8], Option<&[u8]>)
     ensures cut { fields bytes.now ≡ result.0.now ∷ later_fields (option_map (λ s. s.now) result.1) }
     ensures shorter { IfSome result.1 (λ rest. length rest.now < length bytes.now) }
 {
@@ -42,7 +49,7 @@ pub(crate) fn is_blank(b: u8) -> bool
 }
 
 /// The form of a field.
-pub(crate) fn form_of(field: &[u8]) -> Form<'_>
+pub fn form_of(field: &[u8]) -> Form<'_>
     ensures { seen_form result ≡ form_of field.now }
 {
     let whole = without_lead(field);

@@ -10,9 +10,12 @@ use crate::reading::field::is_blank;
 
 /// A line that is not skipped, by its kind; its fields are not split yet.
 #[derive(Clone, Copy)]
-pub(crate) enum Line<'a> {
+pub enum Line<'a> {
+    /// One with a byte 0, or one from 128 on.
     NonAscii,
+    /// Fields that continue an entry.
     Continues(&'a [u8]),
+    /// The names of an entry, and the fields after them.
     Begins(&'a [u8], &'a [u8]),
 }
 

@@ -11,7 +11,7 @@ use std::marker::Model;
 /// The lines that are left, with their numbers, without those that are skipped. Lines count from 1;
 /// the count stops at 4,294,967,295.
 #[derive(Drop)]
-pub(crate) struct Lines<'a> {
+pub struct Lines<'a> {
     /// The first of them and its number, unless none is left.
     first: Option<(u32, Line<'a>)>,
     /// The number of the first line of `rest`.
@@ -31,7 +31,8 @@ impl<'a> Model for Lines<'a> {
 }
 
 impl<'a> Lines<'a> {
-    pub(crate) fn new(bytes: &'a [u8]) -> Lines<'a>
+    /// The lines of a source.
+    pub fn new(bytes: &'a [u8]) -> Lines<'a>
         ensures { result ≡ unskipped (source_lines bytes.now) }
     {
         let mut number = 1;
@@ -45,7 +46,7 @@ impl<'a> Lines<'a> {
     }
 
     /// The next line and its number.
-    pub(crate) fn next(&mut self) -> Option<(u32, Line<'a>)>
+    pub fn next(&mut self) -> Option<(u32, Line<'a>)>
         ensures { self.old ≡ lines_left result self.new }
     {
         let line = self.first?;
