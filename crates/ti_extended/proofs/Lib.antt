@@ -1,0 +1,14 @@
+pub mod DigitLaws
+pub mod EntryLaws
+pub mod FrontLaws
+pub mod ListLaws
+pub mod NumberLaws
+pub mod PlacedLaws
+pub mod PrintedLaws
+pub mod ReadingLaws
+pub mod RefusedLaws
+pub mod SectionLaws
+pub mod TextLaws
+pub mod WholeFileLaws
+pub mod WidenedLaws
+pub mod WritingLaws

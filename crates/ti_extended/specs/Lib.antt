@@ -1,0 +1,9 @@
+pub use Rattle.ti_caps.specs.Description
+pub use Rattle.ti_binary.specs.Files
+pub mod Whole
+pub mod Sections
+pub mod Forms
+pub mod Printed
+pub mod WholeFiles
+pub mod WholeLaws
+pub mod Sizes
