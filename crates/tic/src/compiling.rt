@@ -7,17 +7,18 @@
 use crate::failures::Failure;
 use crate::input::input_of;
 use crate::located::locate;
-use crate::messages::{error_message, note_message};
+use crate::messages::error_message;
+use crate::notes::tell_notes;
 use crate::output::{print, write_files};
-use crate::places::EntryLines;
-use crate::report::{add_message, add_note, add_size, add_unknown};
+use crate::report::add_size;
 use std::alloc::{AllocError, Global};
-use std::io::Write;
+use ti_caps::Bytes;
 use ti_compile::{CompiledEntry, EntryCompiler, TicFault};
+use ti_extended::SecondReading;
 use ti_source::{Notes, Source, read_apart};
 
 /// Lines are written once they have this many bytes.
-const PIECE: usize = 65_536;
+pub(crate) const PIECE: usize = 65_536;
 
 /// Compiled entries are held until all are known to be good, if they take at most this many bytes
 /// together.
@@ -32,35 +33,46 @@ pub(crate) enum Purpose<'a> {
     Files(&'a str),
 }
 
-// A text that is compiled, and the name of its file.
+/// How a source is compiled, and a compiled file listed.
 #[derive(Clone, Copy)]
-struct Text<'a> {
-    file: &'a str,
-    bytes: &'a [u8],
-    verbose: bool,
+pub(crate) struct Wanted {
+    /// More is said on standard error.
+    pub(crate) verbose: bool,
+    /// Every name is kept, and numbers above 32,767.
+    pub(crate) extended: bool,
 }
 
-// A source that is compiled.
+/// A text that is compiled, and the name of its file.
 #[derive(Clone, Copy)]
-struct Job<'a> {
-    rt: &'a HostRuntime,
-    text: Text<'a>,
-    source: &'a Source,
-    notes: &'a Notes,
+pub(crate) struct Text<'a> {
+    pub(crate) file: &'a str,
+    pub(crate) bytes: &'a [u8],
+    pub(crate) wanted: Wanted,
 }
 
-/// Compiles a source. With `verbose`, more is said on standard error.
+/// A source that is compiled.
+#[derive(Clone, Copy)]
+pub(crate) struct Job<'a, 't> {
+    pub(crate) rt: &'a HostRuntime,
+    pub(crate) text: Text<'a>,
+    pub(crate) source: &'a Source,
+    pub(crate) notes: &'a Notes,
+    /// What the entries have besides, if every name is kept.
+    pub(crate) more: Option<&'a SecondReading<'t>>,
+}
+
+/// Compiles a source.
 pub(crate) fn compile<'a>(
     rt: &HostRuntime,
     purpose: Purpose<'_>,
     file: &'a str,
-    verbose: bool,
+    wanted: Wanted,
 ) -> Result<(), Failure<'a>> {
-    let bytes = input_of(rt, file, verbose)?;
+    let bytes = input_of(rt, file, wanted.verbose)?;
     let text = Text {
         file,
         bytes: bytes.as_slice(),
-        verbose,
+        wanted,
     };
     compile_text(rt, purpose, text)
 }
@@ -72,13 +84,15 @@ fn compile_text<'a>(
 ) -> Result<(), Failure<'a>> {
     match read_apart(rt.alloc(), text.bytes) {
         Ok((source, notes)) => {
-            let (source, notes) = (&source, &notes);
+            let more = second_reading(rt.alloc(), text, &notes)?;
+            let (source, notes, more) = (&source, &notes, more.as_ref());
             compile_source(
                 &Job {
                     rt,
                     text,
                     source,
                     notes,
+                    more,
                 },
                 purpose,
             )
@@ -87,9 +101,24 @@ fn compile_text<'a>(
     }
 }
 
+// Reads a text once more that was read with these notes, if every name is to be kept.
+fn second_reading<'t, 'a>(
+    alloc: Global,
+    text: Text<'t>,
+    notes: &Notes,
+) -> Result<Option<SecondReading<'t>>, Failure<'a>> {
+    if !text.wanted.extended {
+        return Ok(None);
+    }
+    match SecondReading::read(alloc, text.bytes, notes) {
+        Ok(more) => Ok(Some(more)),
+        Err(fault) => Err(failure_of(alloc, text, fault.into(), 0)),
+    }
+}
+
 // The failure for the error of a text, or of its entry at an index.
 fn failure_of<'a>(alloc: Global, text: Text<'_>, fault: TicFault, index: usize) -> Failure<'a> {
-    if text.verbose
+    if text.wanted.verbose
         && let Ok(Some(message)) = located_message(alloc, text, fault, index)
     {
         return Failure::Located(message);
@@ -113,13 +142,7 @@ fn located_message(
     }
 }
 
-// Prints lines on standard error.
-fn tell(rt: &HostRuntime, lines: &mut Vec<u8>) {
-    let _ = rt.stderr().write_all(lines.as_slice());
-    lines.clear();
-}
-
-fn compile_source<'a>(job: &Job<'_>, purpose: Purpose<'_>) -> Result<(), Failure<'a>> {
+fn compile_source<'a>(job: &Job<'_, '_>, purpose: Purpose<'_>) -> Result<(), Failure<'a>> {
     let mut compiler = EntryCompiler::new(job.source);
     match purpose {
         Purpose::Sizes => print_sizes(job, &mut compiler),
@@ -129,18 +152,43 @@ fn compile_source<'a>(job: &Job<'_>, purpose: Purpose<'_>) -> Result<(), Failure
 
 // Compiles the next entry, whose index is `index`.
 fn next_entry<'a>(
-    job: &Job<'_>,
+    job: &Job<'_, '_>,
     compiler: &mut EntryCompiler<'_>,
     index: usize,
 ) -> Result<Option<CompiledEntry>, Failure<'a>> {
     match compiler.next_entry(job.rt.alloc()) {
-        Ok(entry) => Ok(entry),
+        Ok(Some(entry)) => completed(job, entry, index),
+        Ok(None) => Ok(None),
         Err(fault) => Err(failure_of(job.rt.alloc(), job.text, fault, index)),
     }
 }
 
+// A compiled entry, with all that is kept of it.
+fn completed<'a>(
+    job: &Job<'_, '_>,
+    entry: CompiledEntry,
+    index: usize,
+) -> Result<Option<CompiledEntry>, Failure<'a>> {
+    let Some(more) = job.more else {
+        return Ok(Some(entry));
+    };
+    match more.file(job.rt.alloc(), &entry.bytes, index) {
+        Ok(bytes) => Ok(Some(with_bytes(entry, bytes))),
+        Err(fault) => Err(failure_of(job.rt.alloc(), job.text, fault.into(), index)),
+    }
+}
+
+fn with_bytes(entry: CompiledEntry, bytes: Bytes) -> CompiledEntry {
+    let CompiledEntry {
+        name,
+        paths,
+        bytes: _,
+    } = entry;
+    CompiledEntry { name, paths, bytes }
+}
+
 // Prints the name of each entry of a source, and the size of its file.
-fn print_sizes<'a>(job: &Job<'_>, compiler: &mut EntryCompiler<'_>) -> Result<(), Failure<'a>> {
+fn print_sizes<'a>(job: &Job<'_, '_>, compiler: &mut EntryCompiler<'_>) -> Result<(), Failure<'a>> {
     let mut sizes = Vec::with_capacity(job.rt.alloc(), job.source.len())?;
     add_sizes(job, compiler, &mut sizes)?;
     tell_notes(job)?;
@@ -149,7 +197,7 @@ fn print_sizes<'a>(job: &Job<'_>, compiler: &mut EntryCompiler<'_>) -> Result<()
 
 // Adds the sizes of all entries' files.
 fn add_sizes<'a>(
-    job: &Job<'_>,
+    job: &Job<'_, '_>,
     compiler: &mut EntryCompiler<'_>,
     sizes: &mut Vec<u16>,
 ) -> Result<(), Failure<'a>> {
@@ -163,7 +211,7 @@ fn add_sizes<'a>(
 
 // The size of the next entry's file.
 fn next_size<'a>(
-    job: &Job<'_>,
+    job: &Job<'_, '_>,
     compiler: &mut EntryCompiler<'_>,
     index: usize,
 ) -> Result<Option<u16>, Failure<'a>> {
@@ -177,7 +225,7 @@ fn size_of(entry: &CompiledEntry) -> u16 {
     u16::try_from(entry.bytes.0.len()).unwrap_or(u16::MAX)
 }
 
-fn print_size_lines<'a>(job: &Job<'_>, sizes: &[u16]) -> Result<(), Failure<'a>> {
+fn print_size_lines<'a>(job: &Job<'_, '_>, sizes: &[u16]) -> Result<(), Failure<'a>> {
     let mut lines = Vec::new(job.rt.alloc());
     add_size_lines(job, sizes, &mut lines)?;
     print(job.rt, lines.as_slice())
@@ -185,7 +233,7 @@ fn print_size_lines<'a>(job: &Job<'_>, sizes: &[u16]) -> Result<(), Failure<'a>>
 
 // Adds the lines of all sizes, and prints them as soon as there are many.
 fn add_size_lines<'a>(
-    job: &Job<'_>,
+    job: &Job<'_, '_>,
     sizes: &[u16],
     lines: &mut Vec<u8>,
 ) -> Result<(), Failure<'a>> {
@@ -203,7 +251,7 @@ fn add_size_lines<'a>(
 
 // Writes the files of a source's entries below a folder.
 fn write_all_files<'a>(
-    job: &Job<'_>,
+    job: &Job<'_, '_>,
     compiler: &mut EntryCompiler<'_>,
     directory: &str,
 ) -> Result<(), Failure<'a>> {
@@ -219,7 +267,7 @@ fn write_all_files<'a>(
 
 // Compiles all entries, and holds them. Answers whether they are few enough for that.
 fn hold_entries<'a>(
-    job: &Job<'_>,
+    job: &Job<'_, '_>,
     compiler: &mut EntryCompiler<'_>,
     held: &mut Vec<CompiledEntry>,
 ) -> Result<bool, Failure<'a>> {
@@ -232,7 +280,7 @@ fn hold_entries<'a>(
 
 // Compiles the next entry, and gives how many bytes are held with it.
 fn hold_next<'a>(
-    job: &Job<'_>,
+    job: &Job<'_, '_>,
     compiler: &mut EntryCompiler<'_>,
     index: usize,
     taken: usize,
@@ -285,7 +333,7 @@ fn write_entries<'a>(
 
 // Compiles the entries again, and writes the files of each.
 fn write_again<'a>(
-    job: &Job<'_>,
+    job: &Job<'_, '_>,
     compiler: &mut EntryCompiler<'_>,
     directory: &str,
 ) -> Result<(), Failure<'a>> {
@@ -297,7 +345,7 @@ fn write_again<'a>(
 }
 
 fn write_next<'a>(
-    job: &Job<'_>,
+    job: &Job<'_, '_>,
     compiler: &mut EntryCompiler<'_>,
     index: usize,
     directory: &str,
@@ -306,45 +354,4 @@ fn write_next<'a>(
         Some(entry) => write_files(job.rt, directory, &entry),
         None => Ok(()),
     }
-}
-
-// Prints the notes on doubtful fields on standard error.
-fn tell_notes(job: &Job<'_>) -> Result<(), AllocError> {
-    let mut lines = Vec::new(job.rt.alloc());
-    tell_all(job, &mut lines)
-}
-
-fn tell_all(job: &Job<'_>, lines: &mut Vec<u8>) -> Result<(), AllocError> {
-    let mut entries = EntryLines::new(job.text.bytes);
-    for i in 0..job.notes.len() {
-        add_note_at(job, i, &mut entries, lines)?;
-        if lines.len() >= PIECE {
-            tell(job.rt, lines);
-        }
-    }
-    tell(job.rt, lines);
-    if job.text.verbose {
-        add_unknown(job.rt.alloc(), job.notes, lines)?;
-        tell(job.rt, lines);
-    }
-    Ok(())
-}
-
-// Adds the line for the note at an index. Notes are in the order of their lines.
-fn add_note_at(
-    job: &Job<'_>,
-    i: usize,
-    entries: &mut EntryLines<'_>,
-    lines: &mut Vec<u8>,
-) -> Result<(), AllocError> {
-    if i >= job.notes.len() {
-        return Ok(());
-    }
-    let note = job.notes.at(i);
-    if !job.text.verbose {
-        return add_note(job.rt.alloc(), note, lines);
-    }
-    let names = entries.names_at(note.line);
-    let message = note_message(job.rt.alloc(), job.text.file, names, note)?;
-    add_message(message.as_str(), lines)
 }

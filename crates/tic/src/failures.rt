@@ -3,6 +3,7 @@
 use std::alloc::{AllocError, AllocFailed};
 use thiserror::Error;
 use ti_compile::TicFault;
+use ti_extended::WholeFault;
 
 /// Why the program ends with a status other than 0, with the texts that it prints.
 #[derive(Debug, Drop, Error)]
@@ -20,6 +21,8 @@ pub(crate) enum Failure<'a> {
     Write(String),
     #[error("tic: {0}")]
     Fault(TicFault),
+    #[error("tic: {0}")]
+    Whole(WholeFault),
     /// The same with `-v`: what is wrong in a file, and where.
     #[error("{0}")]
     Located(String),
@@ -46,6 +49,15 @@ impl From<AllocError> for Failure<'_> {
 impl<T: Drop> From<AllocFailed<T>> for Failure<'_> {
     fn from(_e: AllocFailed<T>) -> Self {
         Failure::NoMemory
+    }
+}
+
+impl From<WholeFault> for Failure<'_> {
+    fn from(fault: WholeFault) -> Self {
+        match fault {
+            WholeFault::NoMemory => Failure::NoMemory,
+            other => Failure::Whole(other),
+        }
     }
 }
 

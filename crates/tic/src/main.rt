@@ -3,7 +3,8 @@
 //! `tic -c FILE` compiles FILE and prints the first name of each entry and the size of its compiled
 //! file, one entry a line. `tic -o DIR FILE` writes the files below DIR, one for each name of an
 //! entry, and prints nothing. `tic -d COMPILED` prints a compiled file as source. If FILE or
-//! COMPILED is `-`, it is the standard input.
+//! COMPILED is `-`, it is the standard input. With `-x` the names of term.h that the capability table does not have, names of an
+//! entry's own and numbers above 32,767 are kept too.
 //!
 //! Notes on doubtful fields, and what a listing leaves out, go to standard error. An error is printed
 //! there as `tic: ` and its text; with `-v` errors and notes begin with the file, the line and the
@@ -18,6 +19,7 @@ mod fields;
 mod input;
 mod located;
 mod messages;
+mod notes;
 mod output;
 mod places;
 mod report;
@@ -26,7 +28,7 @@ mod words;
 
 use clap::ArgMatches;
 use clap::error::ErrorKind;
-use compiling::{Purpose, compile};
+use compiling::{Purpose, Wanted, compile};
 use failures::Failure;
 use input::input_of;
 use output::print;
@@ -35,8 +37,9 @@ use report::add_left_out;
 use std::io::Write;
 use std::process::ExitCode;
 use std::{env, io};
-use ti_compile::{Listing, TicFault, list};
+use ti_compile::{TicFault, list};
 use ti_database::first_folder;
+use ti_extended::{WholeEntry, WholeFault, decode_whole, print_whole};
 use words::Task;
 
 fn main(rt: HostRuntime) -> ExitCode {
@@ -102,7 +105,7 @@ fn tell_folder(rt: &HostRuntime) {
 
 fn perform_task(rt: &HostRuntime, matches: &ArgMatches<'_>) -> u8 {
     let ended = match words::task_of(matches) {
-        Some(task) => run(rt, task, words::is_verbose(matches)),
+        Some(task) => run(rt, task, wanted(matches)),
         None => Err(Failure::Usage),
     };
     match ended {
@@ -111,11 +114,19 @@ fn perform_task(rt: &HostRuntime, matches: &ArgMatches<'_>) -> u8 {
     }
 }
 
-fn run<'a>(rt: &HostRuntime, task: Task<'a>, verbose: bool) -> Result<(), Failure<'a>> {
+fn wanted(matches: &ArgMatches<'_>) -> Wanted {
+    Wanted {
+        verbose: words::is_verbose(matches),
+        extended: words::is_extended(matches),
+    }
+}
+
+fn run<'a>(rt: &HostRuntime, task: Task<'a>, wanted: Wanted) -> Result<(), Failure<'a>> {
     match task {
-        Task::Sizes(file) => compile(rt, Purpose::Sizes, file, verbose),
-        Task::Files(directory, file) => compile(rt, Purpose::Files(directory), file, verbose),
-        Task::Listing(file) => print_listing(rt, file, verbose),
+        Task::Sizes(file) => compile(rt, Purpose::Sizes, file, wanted),
+        Task::Files(directory, file) => compile(rt, Purpose::Files(directory), file, wanted),
+        Task::Listing(file) if wanted.extended => print_whole_listing(rt, file, wanted.verbose),
+        Task::Listing(file) => print_listing(rt, file, wanted.verbose),
     }
 }
 
@@ -123,9 +134,43 @@ fn run<'a>(rt: &HostRuntime, task: Task<'a>, verbose: bool) -> Result<(), Failur
 fn print_listing<'a>(rt: &HostRuntime, file: &'a str, verbose: bool) -> Result<(), Failure<'a>> {
     let bytes = input_of(rt, file, verbose)?;
     match list(rt.alloc(), bytes.as_slice()) {
-        Ok(listing) => print_listed(rt, &listing),
+        Ok(listing) => print_listed(
+            rt,
+            listing.text.0.as_slice(),
+            listing.unnamed,
+            listing.skipped,
+        ),
         Err(fault) if verbose => Err(unlisted(rt, file, fault)),
         Err(fault) => Err(fault.into()),
+    }
+}
+
+// The same with every name and with numbers above 32,767.
+fn print_whole_listing<'a>(
+    rt: &HostRuntime,
+    file: &'a str,
+    verbose: bool,
+) -> Result<(), Failure<'a>> {
+    let bytes = input_of(rt, file, verbose)?;
+    match decode_whole(rt.alloc(), bytes.as_slice()) {
+        Ok(whole) => print_whole_listed(rt, &whole),
+        Err(fault) if verbose => Err(whole_unlisted(rt, file, fault)),
+        Err(fault) => Err(fault.into()),
+    }
+}
+
+fn print_whole_listed<'a>(rt: &HostRuntime, whole: &WholeEntry) -> Result<(), Failure<'a>> {
+    let printed = print_whole(rt.alloc(), whole)?;
+    print_listed(rt, printed.text.0.as_slice(), printed.unnamed, 0)
+}
+
+fn whole_unlisted<'a>(rt: &HostRuntime, file: &str, fault: WholeFault) -> Failure<'a> {
+    if fault == WholeFault::NoMemory {
+        return Failure::NoMemory;
+    }
+    match format!(in rt.alloc(); "{file}: {fault}") {
+        Ok(message) => Failure::Located(message),
+        Err(_) => fault.into(),
     }
 }
 
@@ -140,10 +185,15 @@ fn unlisted<'a>(rt: &HostRuntime, file: &str, fault: TicFault) -> Failure<'a> {
     }
 }
 
-fn print_listed<'a>(rt: &HostRuntime, listing: &Listing) -> Result<(), Failure<'a>> {
+fn print_listed<'a>(
+    rt: &HostRuntime,
+    text: &[u8],
+    unnamed: usize,
+    skipped: usize,
+) -> Result<(), Failure<'a>> {
     let mut left_out = Vec::new(rt.alloc());
-    add_left_out(rt.alloc(), listing.unnamed, listing.skipped, &mut left_out)?;
-    let printed = print(rt, listing.text.0.as_slice());
+    add_left_out(rt.alloc(), unnamed, skipped, &mut left_out)?;
+    let printed = print(rt, text);
     let _ = rt.stderr().write_all(left_out.as_slice());
     printed
 }

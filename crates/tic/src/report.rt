@@ -1,6 +1,7 @@
 //! The lines that `tic` prints.
 
 use std::alloc::{AllocError, Global};
+use ti_extended::SecondReading;
 use ti_source::{Cause, NoteView, Notes};
 
 /// Adds the line for a note: its line number, its cause and the field's name.
@@ -36,9 +37,10 @@ pub(crate) fn add_message(message: &str, lines: &mut Vec<u8>) -> Result<(), Allo
 pub(crate) fn add_unknown(
     alloc: Global,
     notes: &Notes,
+    more: Option<&SecondReading<'_>>,
     lines: &mut Vec<u8>,
 ) -> Result<(), AllocError> {
-    let names = unknown_names(alloc, notes)?;
+    let names = unknown_names(alloc, notes, more)?;
     let mut counted = Vec::new(alloc);
     add_counted(&names, &mut counted)?;
     add_counts(alloc, names.len(), &counted, lines)
@@ -82,16 +84,28 @@ fn add_name(
 }
 
 // The names of the unknown fields, in the order of their bytes.
-fn unknown_names<'a>(alloc: Global, notes: &'a Notes) -> Result<Vec<&'a [u8]>, AllocError> {
+fn unknown_names<'a>(
+    alloc: Global,
+    notes: &'a Notes,
+    more: Option<&SecondReading<'_>>,
+) -> Result<Vec<&'a [u8]>, AllocError> {
     let mut names = Vec::new(alloc);
     for i in 0..notes.len() {
         let note = notes.at(i);
-        if note.cause == Cause::Unknown {
+        if cause_at(note.cause, i, more) == Some(Cause::Unknown) {
             names.push(note.name)?;
         }
     }
     names.sort_unstable();
     Ok(names)
+}
+
+/// What is doubtful in the field of the note at an index, where a second reading counts if there is one.
+pub(crate) fn cause_at(cause: Cause, i: usize, more: Option<&SecondReading<'_>>) -> Option<Cause> {
+    match more {
+        Some(more) => more.cause(i),
+        None => Some(cause),
+    }
 }
 
 // Adds how often each of these names occurs, the most frequent first. Equal names are neighbours in

@@ -15,7 +15,7 @@ pub(crate) enum Task<'a> {
 }
 
 /// Parses the command line: exactly one of `-c FILE`, `-o DIR FILE` and `-d COMPILED`, and
-/// optionally `-v`. The usage text begins with the program's name and version.
+/// optionally `-x` and `-v`. The usage text begins with the program's name and version.
 pub(crate) fn matches<'a>(
     alloc: Global,
     version: &'a str,
@@ -39,6 +39,7 @@ fn arguments<'a>(alloc: Global, command: Command<'a>) -> Result<Command<'a>, All
         .arg(sizes(alloc))?
         .arg(files(alloc))?
         .arg(listing(alloc))?
+        .arg(extended(alloc))?
         .arg(verbose(alloc))?
         .arg(version(alloc))
 }
@@ -66,6 +67,13 @@ fn listing<'a>(alloc: Global) -> Arg<'a> {
         .action(ArgAction::Set)
         .value_name("COMPILED")
         .help("Prints a compiled file as source")
+}
+
+fn extended<'a>(alloc: Global) -> Arg<'a> {
+    Arg::new(alloc, "extended")
+        .short('x')
+        .action(ArgAction::SetTrue)
+        .help("Keeps every name, in term.h or not, and numbers up to 2147483647")
 }
 
 fn verbose<'a>(alloc: Global) -> Arg<'a> {
@@ -108,6 +116,11 @@ pub(crate) fn task_of<'a>(matches: &ArgMatches<'a>) -> Option<Task<'a>> {
 pub(crate) fn are_operands(words: &[String]) -> bool {
     let operands = words.get(1..).unwrap_or(&[]);
     !operands.is_empty() && operands.iter().all(|word| !word.as_str().starts_with('-'))
+}
+
+/// Whether to keep every name, and numbers above 32,767.
+pub(crate) fn is_extended(matches: &ArgMatches<'_>) -> bool {
+    matches.get_flag("extended")
 }
 
 /// Whether to print more on standard error.
