@@ -1,6 +1,6 @@
 //! Whole entries: an entry, its numbers as they are, and its extended capabilities.
-ghost use Rattle.std.specs.Prelude.{◌≡◌, ◌≤◌, IfOk, OnErr, OnOk, Some, length, map, slice_set};
-ghost use Rattle.ti_caps.specs.Description.{IsDescription};
+ghost use Rattle.std.specs.Prelude.{◌≡◌, ◌<◌, ◌≤◌, IfOk, IsOk, IsOkUnless, OnErr, OnOk, Some, false, length, map, min, slice_set, true};
+ghost use Rattle.ti_caps.specs.Description.{IsDescription, has_nul};
 ghost use Rattle.ti_extended.specs.Whole.{IsWhole, clamped, no_capabilities};
 
 use crate::capabilities::Extended;
@@ -71,14 +71,18 @@ impl WholeEntry {
 
     /// Makes a flag present, as `Entry::set_flag`.
     pub fn set_flag(&mut self, slot: Slot) -> Result<(), CapFault>
-        ensures { OnErr result (self.new ≡ self.old) }
+        ensures fits { slot.0 < 64 → IsOk result }
+        ensures ok { OnOk result (self.new ≡ record self.old { entry = record self.old.entry { flags = slice_set self.old.entry.flags slot.0 true } }) }
+        ensures err { OnErr result (self.new ≡ self.old) }
     {
         self.entry.set_flag(slot, true)
     }
 
     /// Sets a text, as `Entry::set_text`.
     pub fn set_text(&mut self, slot: Slot, text: &[u8]) -> Result<(), CapFault>
-        ensures { OnErr result (self.new ≡ self.old) }
+        ensures good { slot.0 < 512 → has_nul text.now ≡ false → IsOkUnless result CapFault.NoMemory }
+        ensures ok { OnOk result (self.new ≡ record self.old { entry = record self.old.entry { texts = slice_set self.old.entry.texts slot.0 (Some text.now) } }) }
+        ensures err { OnErr result (self.new ≡ self.old) }
     {
         self.entry.set_text(slot, Some(text))
     }
@@ -87,7 +91,7 @@ impl WholeEntry {
     /// `SlotTooBig` from position 64 on.
     pub fn set_number(&mut self, slot: Slot, number: u32) -> Result<(), CapFault>
         requires { number ≤ 2147483647 }
-        ensures ok { OnOk result (self.new.numbers ≡ slice_set self.old.numbers slot.0 (Some number)) }
+        ensures ok { OnOk result (self.new ≡ record self.old { entry = record self.old.entry { numbers = slice_set self.old.entry.numbers slot.0 (Some (min number 32767)) }; numbers = slice_set self.old.numbers slot.0 (Some number) }) }
         ensures err { OnErr result (self.new ≡ self.old) }
     {
         let index = usize::from(slot.0);
