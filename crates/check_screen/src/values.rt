@@ -64,7 +64,12 @@ fn add_of_rows(line: &mut Line<'_>) -> Result<(), Trouble> {
     let shown = Attrs(line.words.byte());
     if one.looks.len() == other.cells.len() {
         add_place(
-            Some(shown_before(&one.looks, &other.cells, Charset::Ascii, shown)),
+            Some(shown_before(
+                Some(one.looks.as_slice()),
+                &other.cells,
+                Charset::Ascii,
+                shown,
+            )),
             got,
         );
     }

@@ -7,11 +7,11 @@ use Rattle.scr_cells.specs.CellViews.{CellView, blank_cell}
 use Rattle.scr_cells.specs.Characters.{seen_character}
 use Rattle.scr_cells.specs.LookViews.{LookView, blank, seen}
 use Rattle.scr_cells.specs.PenViews.{pair_colours}
-use Rattle.scr_cells.specs.Showing.{HasRendition, IsSeenAt, IsUnseenAt}
+use Rattle.scr_cells.specs.Showing.{HasRendition, IsSeenAt, IsUnseenAt, shown_in}
 use Rattle.scr_cells.specs.declared.charsets.Charset.{Charset}
 use Rattle.scr_cells.specs.declared.charsets.Charset.TheVariants.{Ascii, Utf8}
 use Rattle.scr_cells.specs.Code.Lanes.{HasEight}
-use Rattle.scr_cells.specs.Code.Numbers.{HasBase, HasLimit, IsLimit, IsSeenAsItIs, KeepsRendition, cell_of, look_of}
+use Rattle.scr_cells.specs.Code.Numbers.{HasBase, HasLimit, IsLimit, IsSeenAsItIs, KeepsRendition, ShowsEight, cell_of, look_of}
 use Rattle.scr_cells.specs.Code.PackedPens.{coded_colour}
 use Rattle.scr_cells.proofs.CharacterLaws.{seen_as_itself, seen_in_utf8}
 use Rattle.scr_cells.proofs.LaneLaws.{below_ascii, below_attributes, below_pairs, kept_above_character, kept_above_seven_bits, none_of_part}
@@ -36,7 +36,7 @@ seen_of charset shown n colours pairs itself few same =
       pen = record { attrs = sym same i; foreground = (ap coded_colour first ∙ colour.0) i; background = (ap coded_colour second ∙ colour.1) i };
     }
 
-number_seen : (charset : Charset) (shown hidden n : ℕ) (looks : List LookView) (cells : List CellView) (place : ℕ) → HasLimit charset shown hidden → get_or looks place blank ≡ look_of n → get_or cells place blank_cell ≡ cell_of n
+number_seen : (charset : Charset) (shown hidden n : ℕ) (looks : Option (List LookView)) (cells : List CellView) (place : ℕ) → HasLimit charset shown hidden → shown_in looks place ≡ look_of n → get_or cells place blank_cell ≡ cell_of n
     → n < 4294967296 → bit_and n hidden ≡ 0 → IsSeenAt charset shown looks cells place
 number_seen charset shown hidden n looks cells place limited look cell few none colours pairs =
     let fits = limited.is n (limited.below n few none) in
@@ -55,13 +55,13 @@ more P at n before next i up = by (less_or_not i at)
     by (inr from) = let there : at + (i - at) ≡ i = omega (arith, from) in subst P there (next (i - at) (omega (arith, from, up)))
 
 -- n of eight places more, whose numbers are 0
-pub more_seen : (charset : Charset) (shown hidden at n : ℕ) (looks : List LookView) (cells : List CellView) (xs ys zs : List ℕ) → HasLimit charset shown hidden → HasEight look_of looks at xs → HasEight cell_of cells at ys
+pub more_seen : (charset : Charset) (shown hidden at n : ℕ) (looks : Option (List LookView)) (cells : List CellView) (xs ys zs : List ℕ) → HasLimit charset shown hidden → ShowsEight looks at xs → HasEight cell_of cells at ys
     → ((k : ℕ) → k < 8 → get_or zs k 0 ≡ 0 → (get_or xs k 0 ≡ get_or ys k 0) × (get_or ys k 0 < 4294967296) × (bit_and (get_or ys k 0) hidden ≡ 0))
     → n ≤ 8 → ((k : ℕ) → k < n → get_or zs k 0 ≡ 0) → ((i : ℕ) → i < at → IsSeenAt charset shown looks cells i) → (i : ℕ) → i < at + n → IsSeenAt charset shown looks cells i
 more_seen charset shown hidden at n looks cells xs ys zs limited has_looks has_cells each few zeros before = more (IsSeenAt charset shown looks cells) at n before (λ k up.
     let near : k < 8 = omega (arith, up, few) in
     let same = each k near (zeros k up) in
-    number_seen charset shown hidden (get_or ys k 0) looks cells (at + k) limited (has_looks.each k blank near ∙ ap look_of same.0) (has_cells.each k blank_cell near) same.1 same.2)
+    number_seen charset shown hidden (get_or ys k 0) looks cells (at + k) limited (has_looks.each k near ∙ ap look_of same.0) (has_cells.each k blank_cell near) same.1 same.2)
 
 -- ---- two numbers
 
@@ -83,7 +83,7 @@ look_number x y few same =
     let back : x / 65536 / 4096 ≡ 0 = no_colour_of (x / 65536 / 4096) (ap (λ look. look.pen.background) same ∙ ap coded_colour second) in
     omega (arith, character, attrs, fore, back, few)
 
-unlike_unseen : (charset : Charset) (shown base kept one other : ℕ) (looks : List LookView) (cells : List CellView) (place : ℕ) → HasBase shown cells base → KeepsRendition charset kept → get_or looks place blank ≡ look_of one → get_or cells place blank_cell ≡ cell_of other → one ≢ other
+unlike_unseen : (charset : Charset) (shown base kept one other : ℕ) (looks : Option (List LookView)) (cells : List CellView) (place : ℕ) → HasBase shown cells base → KeepsRendition charset kept → shown_in looks place ≡ look_of one → get_or cells place blank_cell ≡ cell_of other → one ≢ other
     → other < 4294967296 → bit_and other kept ≡ base → IsUnseenAt charset shown looks cells place
 unlike_unseen charset shown base kept one other looks cells place has keeps look cell unlike few is colours pairs same =
     let above = keeps.each other base few (omega (arith, has.is)) is in
@@ -101,13 +101,13 @@ between_alike base first n cells place is_first is_base is from below =
 
 -- ---- as far as a loop has come, among those
 
-pub more_unlike : (charset : Charset) (shown base kept at n : ℕ) (looks : List LookView) (cells : List CellView) (xs ys zs : List ℕ) → HasBase shown cells base → KeepsRendition charset kept → HasEight look_of looks at xs → HasEight cell_of cells at ys
+pub more_unlike : (charset : Charset) (shown base kept at n : ℕ) (looks : Option (List LookView)) (cells : List CellView) (xs ys zs : List ℕ) → HasBase shown cells base → KeepsRendition charset kept → ShowsEight looks at xs → HasEight cell_of cells at ys
     → ((k : ℕ) → k < 8 → get_or zs k 0 ≡ 0 → (get_or xs k 0 ≢ get_or ys k 0) × (get_or ys k 0 < 4294967296) × (bit_and (get_or ys k 0) kept ≡ base))
     → n ≤ 8 → ((k : ℕ) → k < n → get_or zs k 0 ≡ 0) → ((i : ℕ) → i < at → IsUnseenAt charset shown looks cells i) → (i : ℕ) → i < at + n → IsUnseenAt charset shown looks cells i
 more_unlike charset shown base kept at n looks cells xs ys zs has keeps has_looks has_cells each few zeros before = more (IsUnseenAt charset shown looks cells) at n before (λ k up.
     let near : k < 8 = omega (arith, up, few) in
     let is = each k near (zeros k up) in
-    unlike_unseen charset shown base kept (get_or xs k 0) (get_or ys k 0) looks cells (at + k) has keeps (has_looks.each k blank near) (has_cells.each k blank_cell near) is.0 is.1 is.2)
+    unlike_unseen charset shown base kept (get_or xs k 0) (get_or ys k 0) looks cells (at + k) has keeps (has_looks.each k near) (has_cells.each k blank_cell near) is.0 is.1 is.2)
 
 pub more_between : (base first at n : ℕ) (cells : List CellView) (xs zs : List ℕ) → get_or cells 0 blank_cell ≡ cell_of first → base ≡ first / 65536 * 65536 → HasEight cell_of cells at xs
     → ((k : ℕ) → k < 8 → get_or zs k 0 ≡ 0 → (base ≤ get_or xs k 0) × (get_or xs k 0 < base + 65536))

@@ -1,5 +1,5 @@
 //! Cells: what a window holds in one place.
-ghost use Rattle.std.specs.Prelude.{◌≡◌, ◌↔◌, ◌==◌, IsSome, IfSome};
+ghost use Rattle.std.specs.Prelude.{◌≡◌, ◌↔◌, ◌==◌, IsSome, IsTrue, IfSome};
 ghost use Rattle.std.proofs.Common.{rules};
 ghost use Rattle.std.specs.Ordering.{eq_of_both, on};
 ghost use Rattle.std.specs.Cmp.Rules.{comparing};
@@ -127,6 +127,13 @@ impl Cell {
         ensures cell { IsCell self }
     {
         self.packed / 16777216
+    }
+
+    /// Whether two cells have the same attributes and the same colour pair.
+    pub fn has_rendition_of(self, other: Cell) -> bool
+        ensures { IsTrue result ↔ ((self.attrs ≡ other.attrs) × (self.pair ≡ other.pair)) }
+    {
+        self.packed / 65536 == other.packed / 65536
     }
 
     /// The cell with a new background in place of an old one. If it has the old one's character, it gets the new one's;

@@ -1,15 +1,18 @@
 //! Which places of a row surely show, or surely do not show, what is seen of their cells.
 //!
 //! They are looked at eight at a time, and where one of eight ends a count, those before it are counted. Fewer than
-//! eight that are left are for the caller to look at, place by place.
-ghost use Rattle.std.specs.Prelude.{ℕ, ◌≡◌, ◌≢◌, ◌+◌, ◌<◌, ◌≤◌, IfSome, bit_and, length, slice_index_or};
+//! eight that are left are for the caller to look at, place by place. A row whose looks are not given shows blanks.
+ghost use Rattle.std.specs.Prelude.{ℕ, ◌≡◌, ◌≢◌, ◌+◌, ◌<◌, ◌≤◌, IfSome, bit_and, length, option_map, slice_index_or};
 ghost use Rattle.scr_cells.specs.CellViews.{blank_cell};
 ghost use Rattle.scr_cells.specs.Showing.{HasRendition, IsSeenAt, IsUnseenAt};
-ghost use Rattle.scr_cells.specs.Code.Numbers.{HasBase, HasLimit, KeepsRendition, cell_of};
+ghost use Rattle.scr_cells.specs.Code.Numbers.{HasBase, HasLimit, KeepsRendition, ShowsEight, cell_of};
 
 use crate::differences::{Packed, eight};
 use crate::{Attrs, Cell, Charset, Look};
 use std::simd::prelude::*;
+
+// The number of a blank look.
+const BLANK_NUMBER: u32 = 32;
 
 /// A count of places from the left, each of which shows what is seen of its cell on a terminal with this charset that
 /// shows these attributes, whatever the colours of its pairs are.
@@ -17,22 +20,34 @@ use std::simd::prelude::*;
 /// The places are looked at eight at a time, and fewer than eight that are left are not looked at. The count ends, at
 /// the latest, before a cell with a pair, before one with an attribute if not every attribute is shown, and in ASCII
 /// before one with a character above it, so a caller goes on from there place by place. The rows have one length.
-pub fn shown_before(looks: &[Look], cells: &[Cell], charset: Charset, shown: Attrs) -> usize
-    requires { length looks.now ≡ length cells.now }
-    ensures inside { result ≤ length looks.now }
-    ensures same { (i : ℕ) → i < result → IsSeenAt charset shown.0 looks.now cells.now i }
+pub fn shown_before(looks: Option<&[Look]>, cells: &[Cell], charset: Charset, shown: Attrs) -> usize
+    requires { IfSome looks (λ looks. length looks.now ≡ length cells.now) }
+    ensures inside { result ≤ length cells.now }
+    ensures same { (i : ℕ) → i < result → IsSeenAt charset shown.0 (option_map (λ looks. looks.now) looks.entry) cells.now i }
 {
     let hidden = hidden_bits(charset, shown);
-    let whole = looks.len() / 8 * 8;
+    let whole = cells.len() / 8 * 8;
     let mut at = 0;
     while at < whole {
-        let others = unless_same(eight(looks, at), eight(cells, at), hidden);
+        let others = unless_same(eight_shown(looks, at), eight(cells, at), hidden);
         if others.reduce_or() != 0 {
             return at + zeros_from_left(others);
         }
         at += 8;
     }
     at
+}
+
+// The numbers of the looks in the eight places from one on.
+#[inline(always)]
+fn eight_shown(looks: Option<&[Look]>, at: usize) -> u32x8
+    requires { IfSome looks (λ looks. at + 8 ≤ length looks.now) }
+    ensures { ShowsEight (option_map (λ looks. looks.now) looks.entry) at result }
+{
+    match looks {
+        Some(looks) => eight(looks, at),
+        None => u32x8::splat(BLANK_NUMBER),
+    }
 }
 
 // Bits of a cell's number, none of which is set if it has no pair, only attributes that are shown, and a character that
@@ -89,20 +104,25 @@ fn zeros_from_left(numbers: u32x8) -> usize
 /// The places are looked at eight at a time. The count is 0 if the first cell has a pair, or an attribute if not every
 /// attribute is shown, and in ASCII it ends before a cell with a character above it, whose stand-in a look may show. A
 /// caller goes on from there place by place. The rows have one length.
-pub fn unshown_before(looks: &[Look], cells: &[Cell], charset: Charset, shown: Attrs) -> usize
-    requires { length looks.now ≡ length cells.now }
-    ensures inside { result ≤ length looks.now }
-    ensures unseen { (i : ℕ) → i < result → IsUnseenAt charset shown.0 looks.now cells.now i }
+pub fn unshown_before(
+    looks: Option<&[Look]>,
+    cells: &[Cell],
+    charset: Charset,
+    shown: Attrs,
+) -> usize
+    requires { IfSome looks (λ looks. length looks.now ≡ length cells.now) }
+    ensures inside { result ≤ length cells.now }
+    ensures unseen { (i : ℕ) → i < result → IsUnseenAt charset shown.0 (option_map (λ looks. looks.now) looks.entry) cells.now i }
     ensures alike { (i : ℕ) → i < result → HasRendition (slice_index_or cells.now 0 blank_cell) cells.now i }
 {
     let Some(base) = base_of(cells, shown) else {
         return 0;
     };
     let kept = kept_bits(charset);
-    let whole = looks.len() / 8 * 8;
+    let whole = cells.len() / 8 * 8;
     let mut at = 0;
     while at < whole {
-        let others = unless_unlike(eight(looks, at), eight(cells, at), kept, base);
+        let others = unless_unlike(eight_shown(looks, at), eight(cells, at), kept, base);
         if others.reduce_or() != 0 {
             return at + zeros_from_left(others);
         }

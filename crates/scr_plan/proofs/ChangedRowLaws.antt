@@ -20,7 +20,8 @@ use Rattle.scr_plan.proofs.PartLaws.{look_refl, none_in_part, outside_above, out
 use Rattle.scr_plan.proofs.PlainLaws.{look_same, not_false, not_in}
 use Rattle.scr_plan.specs.Code.Drafts.{HasChangesIn, HasDiffering, KeepsRuns, in_runs}
 use Rattle.scr_plan.specs.Code.Joinings.{Continues, ShowsRow, joined_at}
-use Rattle.scr_plan.specs.Code.Painters.{painter_look, painter_of, row_differs, shown_in}
+use Rattle.scr_cells.specs.Showing.{shown_in}
+use Rattle.scr_plan.specs.Code.Painters.{painter_look, painter_of, row_differs}
 use Rattle.scr_plan.specs.Code.Planning.{AreChanges, IsChange, IsSameRow, change_at, row_after, row_at}
 use Rattle.scr_plan.specs.Code.Settled.{HasShown, HasShownIn, is_moved}
 use Rattle.scr_plan.specs.Repaints.{ShowsOutside, differing, differs, is_none_left, look_eq, look_in}

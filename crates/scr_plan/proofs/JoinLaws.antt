@@ -16,7 +16,8 @@ use Rattle.scr_term.specs.declared.operations.operation.Op.{Op}
 use Rattle.scr_term.specs.Operations.Profiles.{ProfileView}
 use Rattle.scr_plan.specs.declared.painting.Painter.{Painter}
 use Rattle.scr_plan.specs.Code.Joinings.{ShowsRow}
-use Rattle.scr_plan.specs.Code.Painters.{is_that_pen, painter_look, painter_of, painter_sees, painter_writes, part_places, pen_before, row_differs, row_paints, shown_in}
+use Rattle.scr_cells.specs.Showing.{shown_in}
+use Rattle.scr_plan.specs.Code.Painters.{is_that_pen, painter_look, painter_of, painter_sees, painter_writes, part_places, pen_before, row_differs, row_paints}
 use Rattle.scr_memory.specs.Memories.{MemoryView, is_known_row}
 use Rattle.scr_plan.specs.Repaints.{brief_place, cleared, differs, joins_left, look_eq, look_in}
 use Rattle.scr_plan.specs.Scratch.{look_at}

@@ -8,7 +8,7 @@ use Rattle.scr_cells.specs.Grids.{grid_row}
 use Rattle.scr_cells.specs.LookViews.{LookView, blank}
 use Rattle.scr_cells.specs.PenViews.{PenView}
 use Rattle.scr_cells.specs.PictureViews.{PictureView}
-use Rattle.scr_cells.specs.Showing.{HasRendition}
+use Rattle.scr_cells.specs.Showing.{HasRendition, shown_in}
 use Rattle.scr_term.specs.declared.operations.operation.Op.TheVariants.{EraseLine}
 use Rattle.scr_term.specs.Operations.Profiles.{ProfileView}
 use Rattle.scr_term.specs.Operations.Texts.{bytes_of, has}
@@ -19,7 +19,7 @@ use Rattle.scr_plan.proofs.PartLaws.{look_refl}
 use Rattle.scr_plan.proofs.PlainLaws.{both, look_same}
 use Rattle.scr_plan.specs.Code.Joinings.{ShowsRow}
 use Rattle.scr_plan.specs.Code.Looking.{IsRest, differs_in}
-use Rattle.scr_plan.specs.Code.Painters.{painter_look, painter_of, painter_sees, part_places, row_differs, shown_in}
+use Rattle.scr_plan.specs.Code.Painters.{painter_look, painter_of, painter_sees, part_places, row_differs}
 use Rattle.scr_memory.specs.Memories.{MemoryView}
 use Rattle.scr_plan.specs.Repaints.{blank_column, differing_from, differs, erased_column, erased_if_worth, is_blank_from, look_eq}
 use Rattle.scr_plan.specs.Scratch.{look_at}

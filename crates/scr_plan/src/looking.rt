@@ -4,12 +4,12 @@ ghost use Rattle.scr_cells.specs.CellViews.{blank_cell};
 ghost use Rattle.scr_cells.specs.Characters.{seen_character};
 ghost use Rattle.scr_cells.specs.Grids.{grid_row};
 ghost use Rattle.scr_cells.specs.LookViews.{blank};
-ghost use Rattle.scr_cells.specs.Showing.{HasRendition};
+ghost use Rattle.scr_cells.specs.Showing.{HasRendition, shown_in};
 ghost use Rattle.scr_term.specs.declared.operations.operation.Op.TheVariants.{EraseLine};
 ghost use Rattle.scr_term.specs.Operations.Texts.{has};
 ghost use Rattle.scr_plan.specs.Code.Joinings.{ShowsRow};
 ghost use Rattle.scr_plan.specs.Code.Looking.{IsRest};
-ghost use Rattle.scr_plan.specs.Code.Painters.{is_that_pen, painter_look, painter_sees, row_differs, shown_in};
+ghost use Rattle.scr_plan.specs.Code.Painters.{is_that_pen, painter_look, painter_sees, row_differs};
 ghost use Rattle.scr_memory.specs.Memories.{MemoryView};
 ghost use Rattle.scr_plan.specs.Repaints.{erased_column, look_eq};
 ghost use Rattle.scr_plan.specs.Code.Scenes.{IsLine, IsScene};
@@ -211,18 +211,12 @@ impl Scene<'_> {
             → shown_in (option_map (λ looks. looks.now) line.now.before) c ≢ painter_sees self.now.painter pairs (slice_index_or line.now.cells.now c blank_cell) }
         ensures alike { (c : ℕ) → from ≤ c → c < from + result → HasRendition (slice_index_or line.now.cells.now from blank_cell) line.now.cells.now c }
     {
-        match line.before {
-            Some(looks) => {
-                let looks = &looks[from as usize..end as usize];
-                unshown_before(
-                    looks,
-                    &line.cells[from as usize..end as usize],
-                    self.painter.charset,
-                    self.painter.shown,
-                ) as u32
-            }
-            None => 0,
-        }
+        unshown_before(
+            looks_in(line.before, from, end),
+            &line.cells[from as usize..end as usize],
+            self.painter.charset,
+            self.painter.shown,
+        ) as u32
     }
 
     // How many places from a column on show what is seen of their cells. They are looked at eight
@@ -235,18 +229,12 @@ impl Scene<'_> {
         ensures same { (c : ℕ) → from ≤ c → c < from + result → (pairs : List (Option ℕ × Option ℕ))
             → shown_in (option_map (λ looks. looks.now) line.now.before) c ≡ painter_sees self.now.painter pairs (slice_index_or line.now.cells.now c blank_cell) }
     {
-        match line.before {
-            Some(looks) => {
-                let looks = &looks[from as usize..end as usize];
-                shown_before(
-                    looks,
-                    &line.cells[from as usize..end as usize],
-                    self.painter.charset,
-                    self.painter.shown,
-                ) as u32
-            }
-            None => 0,
-        }
+        shown_before(
+            looks_in(line.before, from, end),
+            &line.cells[from as usize..end as usize],
+            self.painter.charset,
+            self.painter.shown,
+        ) as u32
     }
 }
 
@@ -299,6 +287,18 @@ fn alike_by_eight(cells: &[Cell], from: u32, end: u32) -> u32
     alike_before(&cells[from as usize..end as usize]) as u32
 }
 
+// What a row shows in columns `from..end`: looks, or blanks.
+#[inline(always)]
+fn looks_in(before: Option<&[Look]>, from: u32, end: u32) -> Option<&[Look]>
+    requires from { from ≤ end }
+    requires end { IfSome before (λ looks. end ≤ length looks.now) }
+    ensures width { IfSome result (λ looks. length looks.now ≡ end - from) }
+    ensures shown { (i : ℕ) → i < end - from → shown_in (option_map (λ looks. looks.now) result) i ≡ shown_in (option_map (λ looks. looks.now) before.entry) (from + i) }
+{
+    let looks = before?;
+    Some(&looks[from as usize..end as usize])
+}
+
 // The cell in a column of a row.
 #[inline(always)]
 pub(crate) fn cell_in(cells: &[Cell], column: u32) -> Cell
@@ -314,7 +314,7 @@ pub(crate) fn are_alike(a: Cell, b: Cell) -> bool
     ensures attrs { result ≡ true → a.attrs ≡ b.attrs }
     ensures pair { result ≡ true → a.pair ≡ b.pair }
 {
-    a.attrs().0 == b.attrs().0 && a.pair() == b.pair()
+    a.has_rendition_of(b)
 }
 
 // Whether a blank is seen.

@@ -1,9 +1,10 @@
 -- Looks and cells that are one number: words of private functions.
-use Rattle.std.specs.Prelude.{ℕ, ◌≡◌, ◌+◌, ◌*◌, ◌<◌, ◌≤◌, ◌/◌, ◌%◌, bit_and, List, slice_index_or}
+use Rattle.std.specs.Prelude.{ℕ, ◌≡◌, ◌+◌, ◌*◌, ◌<◌, ◌≤◌, ◌/◌, ◌%◌, bit_and, List, Option, length, slice_index_or}
 use Rattle.scr_cells.specs.CellViews.{CellView, blank_cell}
 use Rattle.scr_cells.specs.Characters.{seen_character}
 use Rattle.scr_cells.specs.LookViews.{LookView}
 use Rattle.scr_cells.specs.declared.charsets.Charset.{Charset}
+use Rattle.scr_cells.specs.Showing.{shown_in}
 use Rattle.scr_cells.specs.Code.PackedPens.{coded_pen}
 
 -- the look and the cell of a number
@@ -12,6 +13,11 @@ look_of n = record { character = n % 65536; pen = coded_pen (n / 65536) }
 
 abbrev pub cell_of : ℕ → CellView
 cell_of n = record { character = n % 65536; attrs = n / 65536 % 256; pair = n / 16777216 }
+
+-- eight numbers that say what a row shows in the eight places from one on
+pub record ShowsEight (looks : Option (List LookView)) (at : ℕ) (lanes : List ℕ) : Type 0 where
+  pub eight : length lanes ≡ 8
+  pub each : (k : ℕ) → k < 8 → shown_in looks (at + k) ≡ look_of (slice_index_or lanes k 0)
 
 -- a number below the limit has no pair, and only attributes that are shown
 abbrev pub IsLimit : ℕ → ℕ → Type 0

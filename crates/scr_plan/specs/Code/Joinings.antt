@@ -10,7 +10,7 @@ use Rattle.scr_term.specs.Operations.Profiles.{ProfileView, abilities}
 use Rattle.scr_term.specs.Operations.States.{TerminalState, IsState}
 use Rattle.scr_term.specs.Operations.Steps.{runs}
 use Rattle.scr_term.specs.Operations.Texts.{all_bytes, has}
-use Rattle.scr_plan.specs.Code.Painters.{shown_in}
+use Rattle.scr_cells.specs.Showing.{shown_in}
 use Rattle.scr_memory.specs.Memories.{MemoryView, is_known_row}
 use Rattle.scr_plan.specs.Repaints.{erased_column, joined_place, look_in, without_idle}
 use Rattle.scr_plan.specs.declared.strokes.Draft.{Draft}

@@ -1,11 +1,12 @@
 -- Painting a place by what is known of the terminal beforehand.
-use Rattle.std.specs.Prelude.{ℕ, zero, suc, Bool, false, ◌&&◌, not, List, [], ◌∷◌, ◌++◌, map, slice_index_or, Option, Some, None, if◌then◌else◌}
+use Rattle.std.specs.Prelude.{ℕ, zero, suc, Bool, false, ◌&&◌, not, List, [], ◌∷◌, ◌++◌, map, Option, Some, None, if◌then◌else◌}
 use Rattle.std.specs.List.{range_with_len}
 use Rattle.scr_cells.specs.CellViews.{CellView, blank_cell}
 use Rattle.scr_cells.specs.Grids.{grid_at}
-use Rattle.scr_cells.specs.LookViews.{LookView, blank, seen}
+use Rattle.scr_cells.specs.LookViews.{LookView, seen}
 use Rattle.scr_cells.specs.PenViews.{PenView, is_plain_pen, pen_eq}
 use Rattle.scr_cells.specs.PictureViews.{PictureView}
+use Rattle.scr_cells.specs.Showing.{shown_in}
 use Rattle.scr_term.specs.declared.operations.capability.Capability.TheVariants.{Sgr0}
 use Rattle.scr_term.specs.declared.operations.operation.Op.{Op}
 use Rattle.scr_term.specs.declared.operations.operation.Op.TheVariants.{Move, Reset}
@@ -71,11 +72,6 @@ painter_differs painter picture memory place =
     not (is_known_row memory place.0 && look_eq (look_in memory place) (painter_sees painter picture.pairs (grid_at blank_cell picture.lines place.0 place.1)))
 
 -- ---- places painted after their neighbours
-
--- what a row is known to show in a column: these looks, or blanks
-abbrev pub shown_in : Option (List LookView) → ℕ → LookView
-shown_in None c = blank
-shown_in (Some looks) c = slice_index_or looks c blank
 
 -- what is seen of the picture in a place
 abbrev pub painter_look : Painter → PictureView → ℕ × ℕ → LookView

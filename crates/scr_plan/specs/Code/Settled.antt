@@ -9,7 +9,7 @@ use Rattle.scr_term.specs.Operations.Profiles.{ProfileView}
 use Rattle.scr_term.specs.Operations.States.{TerminalState}
 use Rattle.scr_plan.specs.Code.Drafts.{Aim, IsAimed, in_runs}
 use Rattle.scr_plan.specs.Code.Moves.{shown_at}
-use Rattle.scr_plan.specs.Code.Painters.{shown_in}
+use Rattle.scr_cells.specs.Showing.{shown_in}
 use Rattle.scr_plan.specs.Scratch.{look_at}
 use Rattle.scr_prices.specs.declared.runs.Run.{Run}
 use Rattle.scr_prices.specs.declared.shifts.Shift.{Shift}
