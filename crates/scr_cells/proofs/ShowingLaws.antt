@@ -1,11 +1,10 @@
 -- A look and a cell of one number: the look is what is seen of the cell.
-use Rattle.std.proofs.Common.{◌≡◌, ◌≢◌, ◌⊎◌, inl, inr, ℕ, Bool, true, false, nat_eq, ◌+◌, ◌-◌, ◌*◌, ◌%◌, ◌/◌, ◌<◌, ◌≤◌, sym, ◌∙◌, ap, subst, refl, arith, All, bit_and, List, None, Some, Option, length, get_or, if◌then◌else◌}
+use Rattle.std.proofs.Common.{◌≡◌, ◌≢◌, ◌⊎◌, inl, inr, ℕ, Bool, true, false, nat_eq, ◌+◌, ◌-◌, ◌*◌, ◌%◌, ◌/◌, ◌<◌, ◌≤◌, sym, ◌∙◌, ap, subst, refl, arith, bit_and, List, None, Some, Option, length, get_or, if◌then◌else◌}
 use Rattle.std.proofs.lemmas.Bool.{eqb-true}
 use Rattle.std.proofs.lemmas.List.{get_or_default}
 use Rattle.std.proofs.lemmas.Nat.{and_comm, and_le_r, and_mask}
 use Rattle.scr_cells.specs.CellViews.{CellView, blank_cell}
-use Rattle.scr_cells.specs.Characters.{seen_character}
-use Rattle.scr_cells.specs.LookViews.{LookView, blank, seen}
+use Rattle.scr_cells.specs.LookViews.{LookView, seen}
 use Rattle.scr_cells.specs.PenViews.{pair_colours}
 use Rattle.scr_cells.specs.Showing.{HasRendition, IsSeenAt, IsUnseenAt, shown_in}
 use Rattle.scr_cells.specs.declared.charsets.Charset.{Charset}

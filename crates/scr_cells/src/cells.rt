@@ -79,6 +79,19 @@ impl Cell {
         })
     }
 
+    /// The cell of a byte, with the attributes and the colour pair of this one; `None` if the byte is not 32 to 126.
+    pub fn with_byte(self, byte: u8) -> Option<Cell>
+        ensures character { IsSome result ↔ IsAscii byte }
+        ensures holds { IfSome result (λ cell. cell ≡ record { character = byte; attrs = self.attrs; pair = self.pair }) }
+    {
+        if !is_ascii(byte) {
+            return None;
+        }
+        Some(Cell {
+            packed: self.packed / 65536 * 65536 + u32::from(byte),
+        })
+    }
+
     /// A blank without attributes, with pair 0.
     pub fn blank() -> Cell
         ensures { result ≡ blank_cell }

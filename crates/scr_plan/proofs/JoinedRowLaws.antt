@@ -1,5 +1,5 @@
 -- The joined repaint, row by row.
-use Rattle.std.proofs.Common.{◌≡◌, ℕ, ◌+◌, ◌-◌, ◌<◌, ◌≤◌, ◌⊎◌, inl, inr, not, Bool, true, false, refl, sym, ◌∙◌, ap, subst, arith, append_assoc, get_or, nat_lt, Result, OnOk, List, [], ◌∷◌, ◌++◌, filter, Option, Some, None, zero, suc, if◌then◌else◌, length}
+use Rattle.std.proofs.Common.{◌≡◌, ℕ, ◌+◌, ◌-◌, ◌<◌, ◌≤◌, ◌⊎◌, inl, inr, not, Bool, true, false, refl, sym, ◌∙◌, ap, subst, arith, append_assoc, nat_lt, Result, OnOk, List, [], ◌∷◌, ◌++◌, filter, Option, Some, None, zero, suc, if◌then◌else◌, length}
 use Rattle.std.specs.List.{All, flat_map}
 use Rattle.std.proofs.lemmas.Bool.Decides.{nat_tests}
 use Rattle.std.proofs.lemmas.List.{append-nil}
@@ -7,7 +7,7 @@ use Rattle.std.proofs.lemmas.List.Elements.{recursion_from_All, filter-append}
 use Rattle.scr_term.specs.Operations.Texts.{bytes_of, has, put_of}
 use Rattle.scr_plan.proofs.DraftLaws.{more_bytes, one_bytes}
 use Rattle.scr_plan.specs.Code.Drafts.{place_bytes, run_bytes}
-use Rattle.scr_cells.specs.CellViews.{CellView, IsCell, blank_cell}
+use Rattle.scr_cells.specs.CellViews.{IsCell, blank_cell}
 use Rattle.scr_cells.specs.Characters.{IsCharacter}
 use Rattle.scr_cells.specs.Grids.{grid_at, grid_row}
 use Rattle.scr_cells.specs.LookViews.{LookView, blank}

@@ -1,16 +1,15 @@
 -- How many bytes the characters have that are seen in places of a row.
-use Rattle.std.proofs.Common.{◌≡◌, ◌∙◌, ℕ, zero, suc, ◌+◌, ◌-◌, ◌<◌, ◌≤◌, Bool, true, false, All, ap, arith, encode_utf8, length, refl, subst, sym}
+use Rattle.std.proofs.Common.{◌≡◌, ◌∙◌, ℕ, zero, suc, ◌+◌, ◌-◌, ◌<◌, ◌≤◌, false, All, ap, arith, encode_utf8, length, refl, subst, sym}
 use Rattle.std.proofs.lemmas.List.Elements.{recursion_from_All}
 use Rattle.std.proofs.lemmas.Str.{encode_ascii}
 use Rattle.scr_cells.specs.CellViews.{IsCell, blank_cell}
-use Rattle.scr_cells.specs.Characters.{CharacterLaws, IsCharacter, is_utf8, seen_character}
+use Rattle.scr_cells.specs.Characters.{CharacterLaws, is_utf8, seen_character}
 use Rattle.scr_cells.specs.Grids.{grid_at}
 use Rattle.scr_cells.specs.PictureViews.{IsPicture, PictureView}
 use Rattle.scr_cells.specs.declared.charsets.Charset.{Charset}
 use Rattle.scr_cells.specs.declared.charsets.Charset.TheVariants.{Ascii, Utf8}
 use Rattle.scr_term.specs.Operations.Laws.{HasLaws}
 use Rattle.scr_term.specs.Operations.Profiles.{ProfileView}
-use Rattle.scr_term.specs.Operations.Texts.{bytes_of, put_of}
 use Rattle.scr_plan.specs.Code.Drafts.{place_bytes, run_bytes}
 use Rattle.scr_plan.specs.Code.Painters.{painter_look, painter_of}
 use Rattle.scr_plan.specs.Scratch.{look_at}

@@ -1,7 +1,6 @@
 -- What is remembered after a plan, and that a known row shows the picture but for the columns that may look otherwise.
 use Rattle.std.proofs.Common.{arith, ◌≡◌, ℕ, zero, suc, ◌==◌, ◌&&◌, ◌||◌, not, Bool, true, false, refl, sym, ◌∙◌, ap, append_assoc, subst, List, [], ◌∷◌, ◌++◌, Some, replicate, if◌then◌else◌, ◌+◌, ◌<◌, leb, ltb, get_or, length, map}
 use Rattle.std.specs.List.{list_all, range_with_len}
-use Rattle.scr_cells.specs.declared.charsets.Charset.TheVariants.{Utf8}
 use Rattle.scr_term.specs.declared.operations.capability.Capability.TheVariants.{Sgr0}
 use Rattle.scr_term.specs.declared.operations.operation.Op.{Op}
 use Rattle.scr_term.specs.declared.operations.operation.Op.TheVariants.{Clear, Reset}

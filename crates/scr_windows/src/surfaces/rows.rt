@@ -122,6 +122,6 @@ fn over(cell: Cell, under: Cell) -> Cell
 fn form_of(byte: u8, blank: Cell) -> Option<Cell>
     ensures { result ≡ form_of blank byte }
 {
-    let cell = Cell::paired(byte, blank.attrs(), blank.pair())?;
+    let cell = blank.with_byte(byte)?;
     Some(if byte == 32 { blank } else { cell })
 }

@@ -1,4 +1,4 @@
-use Rattle.std.proofs.Common.{◌≡◌, ◌<◌, ◌∙◌, ap, arith, sym, true, false, cond, nat_lt}
+use Rattle.std.proofs.Common.{◌≡◌, ◌∙◌, ap, arith, sym, true, false, cond, nat_lt}
 use Rattle.std.proofs.lemmas.Bool.Decides.{nat_tests}
 use Rattle.std.proofs.lemmas.Str.{length-encode}
 use Rattle.scr_plan.proofs.lengths.encoded_length.Goals as goal

@@ -1,4 +1,4 @@
-use Rattle.std.proofs.Common.{◌≡◌, ◌≤◌, ◌∙◌, ap, arith}
+use Rattle.std.proofs.Common.{◌≤◌, ◌∙◌, ap, arith}
 use Rattle.scr_cells.specs.Characters.{seen_character}
 use Rattle.scr_plan.proofs.LengthLaws.{one_more}
 use Rattle.scr_plan.proofs.LookingLaws.{look_by}

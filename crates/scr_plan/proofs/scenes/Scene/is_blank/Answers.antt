@@ -1,4 +1,4 @@
-use Rattle.std.proofs.Common.{ap, option_map, rules, sym, true, None, ◌≡◌, ◌∙◌}
+use Rattle.std.proofs.Common.{ap, rules, sym, true, None, ◌≡◌, ◌∙◌}
 use Rattle.scr_cells.specs.LookViews.{blank}
 use Rattle.scr_plan.specs.Code.Painters.{painter_look}
 use Rattle.scr_plan.specs.Repaints.{look_eq}
