@@ -1,5 +1,5 @@
 //! Painting a whole picture from scratch, row by row and place by place.
-ghost use Rattle.std.specs.Prelude.{◌≡◌, ◌<◌, ◌++◌, ◌==◌, ◌&&◌, [], IfOk, OnOk, map, filter, bit_and, if◌then◌else◌};
+ghost use Rattle.std.specs.Prelude.{◌≡◌, ◌+◌, ◌<◌, ◌++◌, ◌∷◌, ◌==◌, ◌&&◌, [], IfOk, OnOk, map, filter, bit_and, vec_capacity, vec_len, if◌then◌else◌};
 ghost use Rattle.std.specs.List.{flat_map};
 ghost use Rattle.scr_cells.specs.Attributes.{attributes_of};
 ghost use Rattle.scr_cells.specs.Characters.{IsCharacter, seen_character};
@@ -199,18 +199,23 @@ impl Painter {
         self.charset.seen(cell)
     }
 
-    // What writes the character that is seen of a cell. Most are of ASCII: with either charset they are seen as they are.
+    // Adds what writes the character that is seen of a cell to operations that have room for it. Most are of ASCII: with
+    // either charset they are seen as they are, and what is added is made in its place.
     #[inline(always)]
     #[tactic(auto, unfolding(scr_term::specs::Operations::Texts::put_of))]
-    pub(crate) fn written(self, cell: Cell) -> Op
-        ensures { result ≡ put_of (seen_character self.charset cell.character) }
+    pub(crate) fn push_written(self, cell: Cell, ops: &mut Vec<Op>)
+        requires { vec_len ops.old < vec_capacity ops.old }
+        ensures items { ops.new.items ≡ ops.old.items ++ put_of (seen_character self.charset cell.character) ∷ [] }
+        ensures len { vec_len ops.new ≡ vec_len ops.old + 1 }
+        ensures capacity { vec_capacity ops.new ≡ vec_capacity ops.old }
     {
         character_laws();
         let code = cell.code();
         if code < 128 {
-            return Op::Put(code as u8);
+            ops.push_reserved(Op::Put(code as u8));
+        } else {
+            push_beyond(self.code_of(cell), ops);
         }
-        written_by(self.code_of(cell))
     }
 
     // The pen that a cell is seen with.
@@ -271,6 +276,18 @@ pub(crate) fn written_by(code: u32) -> Op
     }
     // There is one, since no character is a surrogate.
     Op::Write(char::from_u32(code).unwrap_or(' '))
+}
+
+// Adds what writes the character of a code to operations that have room for it.
+#[inline(never)]
+fn push_beyond(code: u32, ops: &mut Vec<Op>)
+    requires character { IsCharacter code }
+    requires room { vec_len ops.old < vec_capacity ops.old }
+    ensures items { ops.new.items ≡ ops.old.items ++ put_of code ∷ [] }
+    ensures len { vec_len ops.new ≡ vec_len ops.old + 1 }
+    ensures capacity { vec_capacity ops.new ≡ vec_capacity ops.old }
+{
+    ops.push_reserved(written_by(code));
 }
 
 // Adds an operation for each attribute of a set.

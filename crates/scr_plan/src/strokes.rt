@@ -195,8 +195,9 @@ impl Draft {
         let cells = scene.picture.row(row);
         self.ops.reserve((end - column) as usize)?;
         for place in column..end {
-            self.ops
-                .push_reserved(scene.painter.written(cell_in(cells, place)));
+            scene
+                .painter
+                .push_written(cell_in(cells, place), &mut self.ops);
         }
         Ok(())
     }

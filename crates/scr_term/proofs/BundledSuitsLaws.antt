@@ -1,5 +1,5 @@
 -- Nothing is against the bundled entry.
-use Rattle.std.proofs.Common.{◌≡◌, ◌∙◌, ◌==◌, ◌&&◌, ℕ, Bool, not, List, [], ◌∷◌, Option, Some, None, option_and_then, option_map, cond, inl, inr, ap, arith, refl, subst, sym}
+use Rattle.std.proofs.Common.{◌≡◌, ◌∙◌, ◌==◌, ◌&&◌, ℕ, Bool, not, List, [], ◌∷◌, Option, Some, None, option_and_then, option_map, cond, inl, inr, ap, arith, refl, sym}
 use Rattle.std.specs.List.{list_any}
 use Rattle.std.specs.Option.{is_some, is_none}
 use Rattle.std.proofs.lemmas.Bool.Decides.{nat_tests}
@@ -16,7 +16,7 @@ use Rattle.scr_term.specs.declared.operations.capability.Capability.{Capability}
 use Rattle.scr_term.specs.declared.operations.capability.Capability.TheVariants.{Clear, Cup}
 use Rattle.scr_term.specs.declared.operations.profile_faults.ProfileFault.{ProfileFault}
 use Rattle.scr_term.specs.declared.operations.profile_faults.ProfileFault.TheVariants.{Unsuitable, AutoMargin, Missing, BadString, LongString, NoMemory}
-use Rattle.scr_term.specs.Operations.Admission.{IsAdmitted, IsEcma48, IsRefused, admitted, first_where, is_bad_string, is_long_string, is_over_bound, is_present, is_unreadable, named_text, refusal, size_fault, some_text, unsuitable_capabilities}
+use Rattle.scr_term.specs.Operations.Admission.{IsAdmitted, IsRefused, admitted, first_where, is_bad_string, is_long_string, is_over_bound, is_present, is_unreadable, named_text, refusal, size_fault, some_text, unsuitable_capabilities}
 use Rattle.scr_term.specs.Operations.Capabilities.{each_capability, slot_of}
 use Rattle.scr_term.specs.Operations.Profiles.{ProfileView}
 use Rattle.scr_term.specs.Operations.Admission.{is_missing, margin_fault}

@@ -8,7 +8,7 @@ use Rattle.std.proofs.lemmas.Bool.{eqb-true, false≢true}
 use Rattle.std.proofs.lemmas.Str.{encode_ascii, length-encode, len_utf8_bounds}
 use Rattle.std.proofs.lemmas.Bool.Decides.{nat_tests}
 use Rattle.scr_cells.specs.Attributes.{all_attributes}
-use Rattle.scr_cells.specs.Characters.{CharacterLaws, IsAscii, IsCharacter, is_beyond_ascii, is_utf8, seen_character}
+use Rattle.scr_cells.specs.Characters.{CharacterLaws, IsAscii, is_beyond_ascii, is_utf8, seen_character}
 use Rattle.scr_cells.specs.declared.charsets.Charset.{Charset}
 use Rattle.scr_cells.specs.declared.charsets.Charset.TheVariants.{Ascii, Utf8}
 use Rattle.scr_cells.specs.declared.attributes.Attrs.{Attrs}

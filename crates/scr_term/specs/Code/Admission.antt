@@ -1,5 +1,5 @@
 -- How the code admits an entry: nothing that a reader has to believe.
-use Rattle.std.specs.Prelude.{ℕ, ◌≡◌, ◌+◌, ◌-◌, ◌^◌, ◌⊎◌, All, IfSome, Bool, false, min, max, List, [], ◌∷◌, Option, Some, None, Result, slice_index_or, if◌then◌else◌}
+use Rattle.std.specs.Prelude.{ℕ, ◌≡◌, ◌+◌, ◌-◌, ◌^◌, All, IfSome, Bool, false, min, max, List, [], ◌∷◌, Option, Some, None, Result, slice_index_or, if◌then◌else◌}
 use Rattle.scr_cells.specs.declared.charsets.Charset.{Charset}
 use Rattle.scr_cells.specs.declared.charsets.Charset.TheVariants.{Ascii, Utf8}
 use Rattle.ti_caps.specs.Description.{Description}

@@ -1,4 +1,4 @@
-use Rattle.std.proofs.Common.{ap, arith, refl, subst, ◌≡◌, ◌∙◌, ◌≤◌, ◌++◌, ◌∷◌, []}
+use Rattle.std.proofs.Common.{ap, arith, refl, subst, ◌≡◌, ◌∙◌, ◌≤◌}
 use Rattle.scr_cells.specs.Characters.{seen_character}
 use Rattle.scr_plan.specs.Code.Drafts.{IsPut}
 use Rattle.scr_plan.proofs.DraftLaws.{put_more, put_none}
@@ -11,8 +11,8 @@ loop-place-init c = record {
   room = omega (arith, c.in_ok-reserve.ensures.ok, c.in_ok-reserve.ensures.len, c.requires.column);
 }
 
-pub push_reserved-requires : goal.push_reserved-requires
-push_reserved-requires c = omega (arith, c.loop-place.invariant.room, c.loop-place-test.true)
+pub push_written-requires : goal.push_written-requires
+push_written-requires c = omega (arith, c.loop-place.invariant.room, c.loop-place-test.true)
 
 pub loop-place-preserved : goal.loop-place-preserved
 loop-place-preserved c =
@@ -22,8 +22,8 @@ loop-place-preserved c =
           put_more c.run_laws.ensures c.profiles_have.ensures c.grid_laws.ensures _ c.size-size.ensures.profile _ c.size-picture.ensures.picture c.requires.scene.fits _ c.requires.scene.painter c.args.row c.args.column c.loop-place.place
           c.requires.row low (omega (arith, c.loop-place-test.true, c.requires.end)) (seen_character c.args.scene.now.painter.charset c.cell_in.result.character) c.args.self.now c.loop-place.self _ (c.requires.pen c.loop-place.place low c.loop-place-test.true)
           (ap (λ cell. seen_character c.args.scene.now.painter.charset cell.character) c.cell_in.ensures ∙ ap (λ look. look.character) (look_by c.args.scene.now.painter c.args.scene.now.picture.now c.args.row c.loop-place.place c.row-cells.result.now c.row-cells.ensures.cells))
-          (c.push_reserved.ensures.items ∙ ap (λ op. c.loop-place.self.ops.items ++ op ∷ []) c.written.ensures) refl refl refl refl c.loop-place.invariant.put;
-      room = omega (arith, c.loop-place.invariant.room, c.push_reserved.ensures.len, c.push_reserved.ensures.capacity, c.loop-place-test.true);
+          c.push_written.ensures.items refl refl refl refl c.loop-place.invariant.put;
+      room = omega (arith, c.loop-place.invariant.room, c.push_written.ensures.len, c.push_written.ensures.capacity, c.loop-place-test.true);
     }
 
 pub returns : goal.returns

@@ -1,4 +1,3 @@
-use Rattle.scr_virtual.specs.Code.Lines.{copied_lines, lent_at}
 use Rattle.scr_virtual.proofs.CopyLaws.{none_to_copy}
 use Rattle.scr_virtual.proofs.TakingLaws.{none_touched}
 use Rattle.scr_virtual.proofs.screens.Virtual.copy_touched.Goals as goal
