@@ -98,7 +98,8 @@ impl Painter {
             },
             ops,
         )?;
-        ops.push(written_by(self.code_of(cell)))?;
+        ops.reserve(1)?;
+        self.push_written(cell, ops);
         Ok(())
     }
 

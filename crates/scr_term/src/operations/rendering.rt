@@ -94,7 +94,8 @@ impl Profile {
         Ok(())
     }
 
-    // Appends a character in UTF-8.
+    // Appends a character in UTF-8. It is called, so that the other operations need no room for its bytes.
+    #[inline(never)]
     #[tactic(auto, using(crate::proofs::RenderingLaws::bytes_of_written))]
     fn render_encoded(&self, character: char, out: &mut Vec<u8>) -> Result<(), NoMemory>
         requires { IsTrue (has self.now (Write character)) }
