@@ -21,6 +21,7 @@ pub use reading::escape::{decode, texts_are_spelled};
 pub use reading::field::{Form, fields_are_cut, form_of, split_field};
 pub use reading::line::Line;
 pub use reading::lines::Lines;
+pub use reading::number::number;
 pub use reading::reader::{read, read_apart};
 pub use resolving::resolver::{
     Resolver, entries_pass_on, names_have_one_fault, names_resolve_once, resolve,

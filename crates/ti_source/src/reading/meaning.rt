@@ -10,6 +10,9 @@ use crate::reading::field::Form;
 use crate::reading::number::number;
 use ti_caps::{Kind, Slot, find_name};
 
+/// A value for all numbers that are greater than a capability can have.
+const TOO_GREAT: u32 = 32_768;
+
 /// What a field says of its capability, as it is written: a text is not decoded yet, and each number
 /// above 32,767 is 32,768.
 #[derive(Clone, Copy)]
@@ -90,7 +93,7 @@ fn numeric<'a>(name: &'a [u8], value: &'a [u8]) -> Meaning<'a>
 {
     match find_name(name) {
         None => Meaning::Doubtful(Cause::Unknown, name),
-        Some((Kind::Number, slot)) => valued(name, slot, number(value)),
+        Some((Kind::Number, slot)) => valued(name, slot, number(value, TOO_GREAT)),
         Some(_) => Meaning::Doubtful(Cause::WrongKind, name),
     }
 }

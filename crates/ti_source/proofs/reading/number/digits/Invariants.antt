@@ -5,4 +5,4 @@ use Rattle.ti_source.proofs.reading.number.digits.Given as goal
 
 abbrev pub invariant-loop-b : goal.invariant-loop-b
 invariant-loop-b l =
-    (l.value ≤ 32768) × (option_map cut (digits_after l.base l.value (drop l.b-index l.bytes)) ≡ option_map cut (digits_after l.base 0 l.bytes))
+    (l.value ≤ l.most) × (option_map (cut l.most) (digits_after l.base l.value (drop l.b-index l.bytes)) ≡ option_map (cut l.most) (digits_after l.base 0 l.bytes))
