@@ -9,8 +9,8 @@ use Rattle.std.proofs.lemmas.Bool.{false≢true, or_parts}
 use Rattle.std.proofs.lemmas.List.{drop_at, append-nil, length-map}
 use Rattle.ti_caps.specs.Description.{Description, IsDescription, has_nul}
 use Rattle.ti_binary.specs.Canonical.{canonical, header_of, padding, kept_flags, kept_numbers, kept_texts, word, words, up_to_last, flag_byte, number_word, offset_of, offsets_from, ended, table_of}
-use Rattle.ti_binary.specs.FileLaws.{CanonicalReadsBack}
-use Rattle.ti_binary.proofs.CanonicalLaws.{canonical_length, words_length, offsets_length}
+use Rattle.ti_binary.specs.FileLaws.{CanonicalReadsBack, LongNamesReadBack}
+use Rattle.ti_binary.proofs.CanonicalLaws.{and_parts, canonical_length, names_short, words_length, offsets_length}
 use Rattle.ti_binary.proofs.FileLaws.{files_have_one_entry}
 use Rattle.ti_binary.specs.declared.widths.Width.TheVariants.{Legacy}
 use Rattle.ti_binary.specs.Files.{IsFile, word_at, words_in, padded, flag_said, number_said, text_said, is_nul, is_outside, is_unended, is_negative}
@@ -246,10 +246,6 @@ numbers_are_words (o ∷ os) h = (number_small o h.0, numbers_are_words os h.1)
 name_byte : (b : ℕ) → is_name_byte b ≡ true → is_nul b ≡ false
 name_byte b h = grind (arith, nat_tests)
 
-and_parts : (a b : Bool) → (a && b) ≡ true → (a ≡ true) × (b ≡ true)
-and_parts true b h = (refl, h)
-and_parts false b h = absurd (false≢true h)
-
 no_nul_in : (names : List ℕ) → list_all is_name_byte names ≡ true → has_nul names ≡ false
 no_nul_in [] h = refl
 no_nul_in (b ∷ names) h =
@@ -283,8 +279,9 @@ names_bytes names h =
     let rest = (and_parts (nat_le 1 (length names) && nat_le (length names) 511) _ h).1 in
     (and_parts (list_all is_name_byte names) _ rest).0
 
-pub canonical_file : (entry : Description) → IsDescription entry → length entry.names + 1 ≤ 128 → length (canonical entry) ≤ 4096 → IsFile Legacy (canonical entry) entry []
-canonical_file entry d short small =
+pub canonical_file : (entry : Description) → IsDescription entry → length (canonical entry) ≤ 4096 → IsFile Legacy (canonical entry) entry []
+canonical_file entry d small =
+    let short : length entry.names ≤ 511 = names_short entry.names d.named in
     let flags : List Bool = kept_flags entry in
     let numbers : List (Option ℕ) = kept_numbers entry in
     let texts : List (Option (List ℕ)) = kept_texts entry in
@@ -347,7 +344,10 @@ canonical_file entry d short small =
           ∙ ap (padded 512 None) (sym (ap (map (text_said (table_of texts))) offset_words ∙ said.said));
     }
 
-pub canonical_reads_back : CanonicalReadsBack
-canonical_reads_back entry d short small =
-    let is : IsFile Legacy (canonical entry) entry [] = canonical_file entry d short small in
+pub long_names_read_back : LongNamesReadBack
+long_names_read_back entry d small =
+    let is : IsFile Legacy (canonical entry) entry [] = canonical_file entry d small in
     (is, λ other rest f. files_have_one_entry Legacy (canonical entry) rest [] other entry f is)
+
+pub canonical_reads_back : CanonicalReadsBack
+canonical_reads_back entry d short small = long_names_read_back entry d small

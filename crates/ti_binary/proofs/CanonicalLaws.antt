@@ -1,8 +1,9 @@
 -- How long a compiled file is.
-use Rattle.std.proofs.Common.{◌≡◌, ℕ, ◌+◌, ◌*◌, ◌%◌, true, refl, sym, ◌∙◌, ap, arith, List, [], ◌∷◌, ◌++◌, length, length-append, map, min, nat_lt, Option}
+use Rattle.std.proofs.Common.{◌≡◌, ℕ, ◌+◌, ◌*◌, ◌%◌, ◌≤◌, ◌&&◌, nat_le, Bool, true, false, refl, sym, ◌∙◌, ap, arith, List, [], ◌∷◌, ◌++◌, length, length-append, map, min, nat_lt, Option}
 use Rattle.std.proofs.Math.ListN.{length-replicate}
 use Rattle.std.proofs.lemmas.List.{length-map, length-take-le}
 use Rattle.std.proofs.lemmas.Bool.Decides.{nat_tests}
+use Rattle.std.proofs.lemmas.Bool.{false≢true}
 use Rattle.ti_caps.specs.Description.{Description, IsDescription}
 use Rattle.ti_caps.specs.Names.{are_names}
 use Rattle.ti_binary.specs.Canonical.{canonical, flag_byte, header_of, kept_flags, kept_numbers, kept_texts, number_word, offsets_from, ended, padding, renamed, table_of, words}
@@ -70,3 +71,15 @@ too_large entry shape size d s e =
 -- an entry with other names that are good is an entry
 pub renamed-described : (d : Description) (names : List ℕ) → IsDescription d → are_names names ≡ true → IsDescription (renamed d names)
 renamed-described d names is named = record { named = named; flags = is.flags; numbers = is.numbers; texts = is.texts; small = is.small; whole = is.whole; bytes = is.bytes }
+
+pub and_parts : (a b : Bool) → (a && b) ≡ true → (a ≡ true) × (b ≡ true)
+and_parts true b h = (refl, h)
+and_parts false b h = absurd (false≢true h)
+
+-- names have at most 511 bytes
+pub names_short : (names : List ℕ) → are_names names ≡ true → length names ≤ 511
+names_short names h =
+    at_most (length names) (and_parts (nat_le 1 (length names)) (nat_le (length names) 511) (and_parts (nat_le 1 (length names) && nat_le (length names) 511) _ h).0).1
+  where
+    at_most : (n : ℕ) → nat_le n 511 ≡ true → n ≤ 511
+    at_most n e = grind (arith, nat_tests)

@@ -22,3 +22,9 @@ abbrev pub CanonicalReadsBack : Type 0
 CanonicalReadsBack =
     (entry : Description) → IsDescription entry → length entry.names + 1 ≤ 128 → length (canonical entry) ≤ 4096
     → IsFile Legacy (canonical entry) entry [] × ((other : Description) (rest : List ℕ) → IsFile Legacy (canonical entry) other rest → (other ≡ entry) × (rest ≡ []))
+
+-- The same whatever the length of the names, which is at most 511 in an entry.
+abbrev pub LongNamesReadBack : Type 0
+LongNamesReadBack =
+    (entry : Description) → IsDescription entry → length (canonical entry) ≤ 4096
+    → IsFile Legacy (canonical entry) entry [] × ((other : Description) (rest : List ℕ) → IsFile Legacy (canonical entry) other rest → (other ≡ entry) × (rest ≡ []))

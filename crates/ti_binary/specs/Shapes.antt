@@ -9,7 +9,7 @@ use Rattle.ti_binary.specs.declared.widths.Width.{Width}
 -- The sizes of the sections of an entry's file.
 pub record IsShape (entry : Description) (shape : Shape) : Type 0 where
   pub names : shape.names ≡ length entry.names + 1
-  pub short : shape.names ≤ 128
+  pub short : shape.names ≤ 512
   pub flags : take shape.flags entry.flags ≡ kept_flags entry
   pub numbers : take shape.numbers entry.numbers ≡ kept_numbers entry
   pub texts : take shape.texts entry.texts ≡ kept_texts entry

@@ -14,7 +14,7 @@ use ti_caps::{Bytes, Entry};
 /// Why an entry is not written as a compiled file.
 #[derive(Clone, Copy, Debug, PartialEq, Eq, Error)]
 pub enum EncFault {
-    /// The names have more than 127 bytes.
+    /// The names have more than 127 bytes, where that is the limit.
     #[error("names too long")]
     NamesTooLong,
     /// The file would have more than 4,096 bytes.
@@ -50,7 +50,7 @@ impl<T: Drop> From<AllocFailed<T>> for EncFault {
 /// The magic number of a file in the legacy format, octal 0432.
 const MAGIC: u16 = 0o432;
 
-/// The most bytes that the names and their NUL have.
+/// The most bytes that the names and their NUL have by term(5).
 const MOST_NAME_BYTES: usize = 128;
 
 /// The most bytes that a file has.
@@ -81,6 +81,30 @@ pub fn encode_named(alloc: Global, entry: &Entry, names: &[u8]) -> Result<Bytes,
     if names.len() + 1 > MOST_NAME_BYTES {
         return Err(EncFault::NamesTooLong);
     }
+    encode_whatever_names(alloc, entry, names)
+}
+
+/// Writes an entry as `encode` does, but with names of any length that an entry can have: ncurses
+/// reads and writes 511 bytes and their NUL, where term(5) allows 128.
+///
+/// Refused with `TooLarge` if the file would have more than 4,096 bytes, then with `NoMemory`.
+pub fn encode_with_long_names(alloc: Global, entry: &Entry) -> Result<Bytes, EncFault>
+    ensures long { IsErrOf result EncFault.NamesTooLong → ⊥ }
+    ensures large { IsErrOf result EncFault.TooLarge ↔ (4096 < length (canonical entry.now)) }
+    ensures good { length (canonical entry.now) ≤ 4096 → IsOkUnless result EncFault.NoMemory }
+    ensures ok { IfOk result (λ bytes. bytes ≡ canonical entry.now) }
+{
+    encode_whatever_names(alloc, entry, entry.names())
+}
+
+// Writes an entry under these names, whatever their length.
+fn encode_whatever_names(alloc: Global, entry: &Entry, names: &[u8]) -> Result<Bytes, EncFault>
+    requires { are_names names.now ≡ true }
+    ensures long { IsErrOf result EncFault.NamesTooLong → ⊥ }
+    ensures large { IsErrOf result EncFault.TooLarge ↔ (4096 < length (canonical (renamed entry.now names.now))) }
+    ensures good { length (canonical (renamed entry.now names.now)) ≤ 4096 → IsOkUnless result EncFault.NoMemory }
+    ensures ok { IfOk result (λ bytes. bytes ≡ canonical (renamed entry.now names.now)) }
+{
     let _own = entry.names();
     let shape = Shape::of(entry, names);
     if is_too_large(entry, names, &shape) {
@@ -165,7 +189,7 @@ fn put_words(numbers: &[u16], out: &mut Vec<u8>) -> Result<(), AllocError>
 
 // Appends a byte if names and flags together have an odd length.
 fn put_odd_byte(shape: &Shape, out: &mut Vec<u8>) -> Result<(), AllocError>
-    requires names { shape.now.names ≤ 128 }
+    requires names { shape.now.names ≤ 512 }
     requires flags { shape.now.flags ≤ 64 }
     ensures { OnOk result (out.new.items ≡ out.old.items ++ padding (shape.now.names + shape.now.flags)) }
 {

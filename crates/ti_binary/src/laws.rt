@@ -1,6 +1,6 @@
 //! Laws of compiled files, as contracts of functions that do nothing. `specs/FileLaws.antt` states
 //! them.
-ghost use Rattle.ti_binary.specs.FileLaws.{CanonicalReadsBack, FilesAreNotRefused, FilesHaveOneEntry};
+ghost use Rattle.ti_binary.specs.FileLaws.{CanonicalReadsBack, FilesAreNotRefused, FilesHaveOneEntry, LongNamesReadBack};
 
 /// No refusal applies to bytes that are a file of some entry, so `decode` reads them, or
 /// `decode_wide` where the numbers have 32 bits, if there is memory.
@@ -18,4 +18,9 @@ pub fn files_have_one_entry()
 /// and of no other, and nothing follows it.
 pub fn canonical_reads_back()
     ensures { CanonicalReadsBack }
+{}
+
+/// The same of an entry whose names may be longer, within the limit of `encode_with_long_names`.
+pub fn long_names_read_back()
+    ensures { LongNamesReadBack }
 {}

@@ -15,7 +15,9 @@ mod texts;
 mod widths;
 
 pub use decoder::{Decoded, decode, decode_wide};
-pub use encoder::{EncFault, encode, encode_named};
+pub use encoder::{EncFault, encode, encode_named, encode_with_long_names};
 pub use faults::BinFault;
-pub use laws::{canonical_reads_back, files_are_not_refused, files_have_one_entry};
+pub use laws::{
+    canonical_reads_back, files_are_not_refused, files_have_one_entry, long_names_read_back,
+};
 pub use widths::Width;

@@ -29,7 +29,7 @@ impl Shape {
     /// The sizes for an entry with these names.
     pub(crate) fn of(entry: &Entry, names: &[u8]) -> Shape
         requires described { IsDescription entry.now }
-        requires names { length names.now ≤ 127 }
+        requires names { length names.now ≤ 511 }
         ensures { IsShape (renamed entry.now names.now) result }
     {
         let texts = text_count(entry);
@@ -45,7 +45,7 @@ impl Shape {
     /// Whether there is a byte between flags and numbers, so that the numbers begin at an even
     /// offset.
     pub(crate) fn is_odd(&self) -> bool
-        requires names { self.now.names ≤ 128 }
+        requires names { self.now.names ≤ 512 }
         requires flags { self.now.flags ≤ 64 }
         ensures { result ≡ ((self.now.names + self.now.flags) % 2 == 1) }
     {
@@ -54,7 +54,7 @@ impl Shape {
 
     /// The number of bytes of the file.
     pub(crate) fn file_size(&self) -> u16
-        requires names { self.now.names ≤ 128 }
+        requires names { self.now.names ≤ 512 }
         requires flags { self.now.flags ≤ 64 }
         requires numbers { self.now.numbers ≤ 64 }
         requires texts { self.now.texts ≤ 512 }
