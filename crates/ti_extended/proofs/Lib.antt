@@ -1,4 +1,3 @@
-pub mod DigitLaws
 pub mod EntryLaws
 pub mod FrontLaws
 pub mod ListLaws

@@ -1,9 +1,11 @@
 //! What `tic -x` reads of a field besides its capability in the table.
 
 use crate::capabilities::{MOST_WHOLE, is_extended_name};
-use crate::whole_number::whole_number;
 use ti_caps::{Kind, Slot, find_name, standard};
-use ti_source::{Cause, Form, form_of};
+use ti_source::{Cause, Form, form_of, number};
+
+/// A value for all numbers that are greater than a capability can have.
+const TOO_GREAT: u32 = MOST_WHOLE + 1;
 
 /// What a field gives its capability.
 #[derive(Clone, Copy)]
@@ -86,19 +88,12 @@ fn owner_of(name: &[u8]) -> Owner {
 }
 
 fn numeric<'a>(name: &'a [u8], value: &'a [u8]) -> Addition<'a> {
-    match whole_number(value) {
+    match number(value, TOO_GREAT) {
         Some(number) => {
-            let great = number > u64::from(MOST_WHOLE);
-            giving(name, Given::Number(limited(number)), great)
+            let great = number > MOST_WHOLE;
+            giving(name, Given::Number(number.min(MOST_WHOLE)), great)
         }
         None => numberless(name),
-    }
-}
-
-fn limited(number: u64) -> u32 {
-    match u32::try_from(number) {
-        Ok(number) => number.min(MOST_WHOLE),
-        Err(_) => MOST_WHOLE,
     }
 }
 

@@ -16,7 +16,6 @@ mod resolving;
 mod second_reading;
 mod sections;
 mod whole_entry;
-mod whole_number;
 mod words;
 mod writing;
 
