@@ -1,6 +1,7 @@
 pub use Rattle.ti_caps.specs.Description
 pub use Rattle.ti_binary.specs.Files
 pub mod Whole
+pub mod Refusals
 pub mod Sections
 pub mod Forms
 pub mod Printed

@@ -1,7 +1,8 @@
 -- The source text of a whole entry (infocmp(1)).
-use Rattle.std.specs.Prelude.{ℕ, Bool, true, false, List, [], ◌∷◌, ◌++◌, ◌+◌, length, take, drop, Option, Some, None}
+use Rattle.std.specs.Prelude.{ℕ, suc, Bool, true, false, List, [], ◌∷◌, ◌++◌, ◌+◌, ◌&&◌, length, take, drop, Option, Some, None, is_none, is_some, if◌then◌else◌}
 use Rattle.std.specs.Fmt.{decimal}
 use Rattle.std.specs.List.{flat_map}
+use Rattle.ti_caps.specs.declared.table.Kind.{Kind}
 use Rattle.ti_caps.specs.declared.table.Kind.TheVariants.{Flag, Number, Text}
 use Rattle.ti_caps.specs.Standard.{standard_name_at}
 use Rattle.ti_source.specs.Printing.Print.{field_line, lines_from}
@@ -60,3 +61,14 @@ unfoldable pub whole_printed : Whole → List ℕ
 whole_printed w =
     w.entry.names ++ (44 ∷ 10 ∷ []) ++ lines_from flag_line 0 w.entry.flags ++ lines_from number_line 0 w.numbers ++ lines_from text_line 0 w.entry.texts
     ++ own_lines w.extended
+
+-- How many of these, from position k on, are there but have no name in term.h.
+abbrev pub nameless_from : {A : Type 0} → (A → Bool) → Kind → ℕ → List A → ℕ
+nameless_from is_there kind k [] = 0
+nameless_from is_there kind k (x ∷ xs) =
+    (if is_there x && is_none (standard_name_at kind k) then 1 else 0) + nameless_from is_there kind (suc k) xs
+
+-- How many present capabilities of a whole entry have no name in term.h.
+abbrev pub nameless : Whole → ℕ
+nameless w =
+    nameless_from (λ there. there) Flag 0 w.entry.flags + nameless_from is_some Number 0 w.numbers + nameless_from is_some Text 0 w.entry.texts

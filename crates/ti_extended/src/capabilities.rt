@@ -1,7 +1,8 @@
 //! Extended capabilities: those whose names are an entry's own.
-ghost use Rattle.std.specs.Prelude.{◌≡◌, ◌+◌, ◌&&◌, ◌∷◌, [], List, ℕ, not, true, false, nat_le, length, IfOk, IfNone, OnErr, OnSome};
+ghost use Rattle.std.specs.Prelude.{◌≡◌, ◌+◌, ◌&&◌, ◌∷◌, [], List, ℕ, not, true, false, nat_le, length, IfErr, IfOk, IfNone, IfSome, OnErr, OnSome, Some};
 ghost use Rattle.std.specs.List.{list_all, list_any};
 ghost use Rattle.std.specs.Str.{bytes_eq};
+ghost use Rattle.ti_extended.specs.Refusals.{capabilities_refusal};
 ghost use Rattle.ti_extended.specs.Whole.{are_capabilities, are_distinct, begins_field, is_extended_name, is_field_byte, is_small, is_whole_text, no_capabilities};
 
 use crate::faults::WholeFault;
@@ -50,9 +51,9 @@ impl Extended {
     /// the texts; and with these values of the numbers and texts.
     ///
     /// Refused with `BadName` if a name is empty, has a byte that a source cannot have in a name of
-    /// a field, begins with a full stop, or is `use` or a name of term.h; with `RepeatedName` if
-    /// two are the same; and with `BadValue` if there are more values than names, a number is above
-    /// 2,147,483,647, or a text has a byte 0.
+    /// a field, begins with a full stop, or is `use` or a name of term.h; then with `RepeatedName`
+    /// if two are the same; and then with `BadValue` if there are more values than names, a number
+    /// is above 2,147,483,647, or a text has a byte 0.
     pub fn new(
         names: Vec<Bytes>,
         numbers: Vec<u32>,
@@ -61,6 +62,7 @@ impl Extended {
         ensures ok { IfOk result (λ e. e ≡ record { names = names.items; numbers = numbers.items; texts = texts.items }) }
         ensures good { IfOk result (λ e. are_capabilities e ≡ true) }
         ensures err { OnErr result (are_capabilities (record { names = names.items; numbers = numbers.items; texts = texts.items }) ≡ false) }
+        ensures fault { IfErr result (λ f. capabilities_refusal (record { names = names.items; numbers = numbers.items; texts = texts.items }) ≡ Some f) }
     {
         if let Some(fault) = fault_of(&names, &numbers, &texts) {
             return Err(fault);
@@ -99,6 +101,7 @@ impl Extended {
 fn fault_of(names: &[Bytes], numbers: &[u32], texts: &[Bytes]) -> Option<WholeFault>
     ensures none { IfNone result (are_capabilities (record { names = names.now; numbers = numbers.now; texts = texts.now }) ≡ true) }
     ensures some { OnSome result (are_capabilities (record { names = names.now; numbers = numbers.now; texts = texts.now }) ≡ false) }
+    ensures fault { IfSome result (λ f. capabilities_refusal (record { names = names.now; numbers = numbers.now; texts = texts.now }) ≡ Some f) }
 {
     if !are_good(names) {
         return Some(WholeFault::BadName);

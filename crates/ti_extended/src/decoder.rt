@@ -21,7 +21,8 @@ use ti_caps::Entry;
 /// of extended capabilities that may follow it (term(5), 'Extended Storage Format'). Extended
 /// capabilities that are absent or cancelled are left out.
 ///
-/// Refused with the first error that applies, in the order of `WholeFault`.
+/// Refused with the first error that applies, in the order of `WholeFault`; but with `NoMemory`
+/// wherever memory runs out, also before another error is found.
 pub fn decode_whole(alloc: Global, bytes: &[u8]) -> Result<WholeEntry, WholeFault>
     ensures ok { IfOk result (λ w. IsWholeFile bytes.now w) }
     ensures err { IfErr result (λ f. (f ≡ WholeFault.NoMemory) ⊎ ((w : Whole) → IsWholeFile bytes.now w → ⊥)) }

@@ -3,7 +3,8 @@ use std::alloc::{AllocError, AllocFailed};
 use thiserror::Error;
 use ti_binary::BinFault;
 
-/// Why bytes are not read as the file of a whole entry, in the order of the checks.
+/// Why bytes are not read as the file of a whole entry, in the order of the checks; memory may run
+/// out before any of them.
 #[derive(Clone, Copy, Debug, PartialEq, Eq, Error)]
 pub enum WholeFault {
     /// What precedes the extended capabilities is not a compiled file.

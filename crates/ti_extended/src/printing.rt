@@ -1,9 +1,10 @@
 //! Printing a whole entry as source text.
-ghost use Rattle.std.specs.Prelude.{◌≡◌, ◌++◌, ◌∷◌, [], Some, option_map, IfOk, length, OnOk};
+ghost use Rattle.std.specs.Prelude.{◌≡◌, ◌≤◌, ◌&&◌, ◌++◌, ◌∷◌, [], Some, is_none, is_some, option_map, IfOk, length, OnOk, if◌then◌else◌};
 ghost use Rattle.std.specs.List.{flat_map};
-ghost use Rattle.ti_caps.specs.Description.{IsDescription};
+ghost use Rattle.ti_caps.specs.Description.{IsDescription, text_at};
+ghost use Rattle.ti_caps.specs.Standard.{standard_name_at};
 ghost use Rattle.ti_source.specs.Printing.Print.{field_line, lines_from};
-ghost use Rattle.ti_extended.specs.Printed.{flag_line, number_line, number_lines, number_value, own_line, own_lines, text_line, text_lines, text_value, whole_printed};
+ghost use Rattle.ti_extended.specs.Printed.{flag_line, nameless, nameless_from, number_line, number_lines, number_value, own_line, own_lines, text_line, text_lines, text_value, whole_printed};
 
 use crate::capabilities::Extended;
 use crate::whole_entry::WholeEntry;
@@ -25,7 +26,8 @@ pub struct WholePrinted {
 /// term.h, flags first, then numbers and texts, each in the order of positions, and then in the same
 /// way one for each extended capability. Fails only when memory runs out.
 pub fn print_whole(alloc: Global, whole: &WholeEntry) -> Result<WholePrinted, AllocError>
-    ensures { IfOk result (λ p. p.text ≡ whole_printed whole.now) }
+    ensures text { IfOk result (λ p. p.text ≡ whole_printed whole.now) }
+    ensures unnamed { IfOk result (λ p. p.unnamed ≡ nameless whole.now) }
 {
     let text = Bytes(text_of(alloc, whole)?);
     let unnamed = unnamed(whole);
@@ -195,18 +197,60 @@ fn put_text(name: &[u8], text: &[u8], out: &mut Vec<u8>) -> Result<(), AllocErro
 }
 
 // The number of present capabilities without a name in term.h.
-fn unnamed(whole: &WholeEntry) -> usize {
-    let mut count = 0usize;
-    for slot in 0..512u16 {
-        count = count.saturating_add(unnamed_at(whole, slot));
+fn unnamed(whole: &WholeEntry) -> usize
+    ensures { result ≡ nameless whole.now }
+{
+    let entry = whole.entry();
+    let _own = entry.names();
+    unnamed_flags(entry) + unnamed_numbers(whole.numbers()) + unnamed_texts(entry)
+}
+
+fn unnamed_flags(entry: &Entry) -> usize
+    requires { IsDescription entry.now }
+    ensures value { result ≡ nameless_from (λ there. there) Kind.Flag 0 entry.now.flags }
+    ensures few { result ≤ 64 }
+{
+    let mut count = 0;
+    for slot in 0..64u16 {
+        count += unnamed_at(Kind::Flag, slot, entry.flag(Slot(slot)));
     }
     count
 }
 
-fn unnamed_at(whole: &WholeEntry, slot: u16) -> usize {
-    let entry = whole.entry();
-    let flag = entry.flag(Slot(slot)) && name_of(Kind::Flag, Slot(slot)).is_none();
-    let number = entry.number(Slot(slot)).is_some() && name_of(Kind::Number, Slot(slot)).is_none();
-    let text = entry.text(Slot(slot)).is_some() && name_of(Kind::Text, Slot(slot)).is_none();
-    usize::from(flag) + usize::from(number) + usize::from(text)
+fn unnamed_numbers(numbers: &[Option<u32>]) -> usize
+    requires { length numbers.now ≡ 64 }
+    ensures value { result ≡ nameless_from is_some Kind.Number 0 numbers.now }
+    ensures few { result ≤ 64 }
+{
+    let mut count = 0;
+    for slot in 0..64u16 {
+        count += unnamed_at(Kind::Number, slot, numbers[usize::from(slot)].is_some());
+    }
+    count
+}
+
+fn unnamed_texts(entry: &Entry) -> usize
+    requires { IsDescription entry.now }
+    ensures value { result ≡ nameless_from is_some Kind.Text 0 entry.now.texts }
+    ensures few { result ≤ 512 }
+{
+    let mut count = 0;
+    for slot in 0..512u16 {
+        count += unnamed_at(Kind::Text, slot, has_text(entry, slot));
+    }
+    count
+}
+
+fn has_text(entry: &Entry, slot: u16) -> bool
+    ensures { result ≡ is_some (text_at entry.now slot) }
+{
+    entry.text(Slot(slot)).is_some()
+}
+
+// 1 for a capability that is there without a name, else 0.
+fn unnamed_at(kind: Kind, slot: u16, there: bool) -> usize
+    ensures value { result ≡ (if there && is_none (standard_name_at kind slot) then 1 else 0) }
+    ensures small { result ≤ 1 }
+{
+    usize::from(there && name_of(kind, Slot(slot)).is_none())
 }

@@ -1,5 +1,5 @@
 //! Whole entries: an entry, its numbers as they are, and its extended capabilities.
-ghost use Rattle.std.specs.Prelude.{◌≡◌, ◌<◌, ◌≤◌, IfOk, IsOk, IsOkUnless, OnErr, OnOk, Some, false, length, map, min, slice_set, true};
+ghost use Rattle.std.specs.Prelude.{◌≡◌, ◌<◌, ◌≤◌, ◌↔◌, IfOk, IsErrOf, IsOk, IsOkUnless, OnErr, OnOk, Some, false, length, map, min, slice_set, true};
 ghost use Rattle.ti_caps.specs.Description.{IsDescription, has_nul};
 ghost use Rattle.ti_extended.specs.Whole.{IsWhole, clamped, no_capabilities};
 
@@ -71,6 +71,7 @@ impl WholeEntry {
 
     /// Makes a flag present, as `Entry::set_flag`.
     pub fn set_flag(&mut self, slot: Slot) -> Result<(), CapFault>
+        ensures too_big { IsErrOf result CapFault.SlotTooBig ↔ (64 ≤ slot.0) }
         ensures fits { slot.0 < 64 → IsOk result }
         ensures ok { OnOk result (self.new ≡ record self.old { entry = record self.old.entry { flags = slice_set self.old.entry.flags slot.0 true } }) }
         ensures err { OnErr result (self.new ≡ self.old) }
@@ -80,6 +81,8 @@ impl WholeEntry {
 
     /// Sets a text, as `Entry::set_text`.
     pub fn set_text(&mut self, slot: Slot, text: &[u8]) -> Result<(), CapFault>
+        ensures too_big { IsErrOf result CapFault.SlotTooBig ↔ (512 ≤ slot.0) }
+        ensures nul { IsErrOf result CapFault.NulInText ↔ ((slot.0 < 512) × (has_nul text.now ≡ true)) }
         ensures good { slot.0 < 512 → has_nul text.now ≡ false → IsOkUnless result CapFault.NoMemory }
         ensures ok { OnOk result (self.new ≡ record self.old { entry = record self.old.entry { texts = slice_set self.old.entry.texts slot.0 (Some text.now) } }) }
         ensures err { OnErr result (self.new ≡ self.old) }
@@ -91,16 +94,18 @@ impl WholeEntry {
     /// `SlotTooBig` from position 64 on.
     pub fn set_number(&mut self, slot: Slot, number: u32) -> Result<(), CapFault>
         requires { number ≤ 2147483647 }
+        ensures too_big { IsErrOf result CapFault.SlotTooBig ↔ (64 ≤ slot.0) }
+        ensures fits { slot.0 < 64 → IsOk result }
         ensures ok { OnOk result (self.new ≡ record self.old { entry = record self.old.entry { numbers = slice_set self.old.entry.numbers slot.0 (Some (min number 32767)) }; numbers = slice_set self.old.numbers slot.0 (Some number) }) }
         ensures err { OnErr result (self.new ≡ self.old) }
     {
-        let index = usize::from(slot.0);
-        if index >= self.numbers.len() {
+        if slot.0 >= MOST_NUMBERS as u16 {
             return Err(CapFault::SlotTooBig);
         }
+        let _own = self.entry.names();
         self.entry
             .set_number(slot, Some(number.min(u32::from(MOST_NUMBER)) as u16))?;
-        self.numbers[index] = Some(number);
+        self.numbers[usize::from(slot.0)] = Some(number);
         Ok(())
     }
 
