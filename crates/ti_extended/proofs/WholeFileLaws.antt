@@ -8,7 +8,7 @@ use Rattle.std.proofs.lemmas.List.{append-nil, drop_at, length-map, nil_from_len
 use Rattle.ti_caps.specs.Description.{Description, IsDescription}
 use Rattle.ti_binary.specs.Canonical.{canonical, padding}
 use Rattle.ti_binary.specs.Files.{IsFile, magic_of, number_said, numbers_in, numbers_of, numbers_place, numbers_size, padded, part, word_at}
-use Rattle.ti_binary.specs.FileLaws.{CanonicalReadsBack, FilesHaveOneEntry}
+use Rattle.ti_binary.specs.FileLaws.{FilesHaveOneEntry, LongNamesReadBack}
 use Rattle.ti_binary.specs.declared.widths.Width.{Width}
 use Rattle.ti_binary.specs.declared.widths.Width.TheVariants.{Legacy, Wide}
 use Rattle.ti_extended.specs.Whole.{Capabilities, IsWhole, Whole, are_capabilities, are_distinct, clamped, is_extended_name, is_small, is_whole_text, no_capabilities}
@@ -125,12 +125,12 @@ wide_front w d h good f short =
         let d = and_parts (nat_le (length e.numbers + length e.texts) (length e.names)) (list_all is_small e.numbers && list_all is_whole_text e.texts) b.1 in
         (and_parts (list_all is_small e.numbers) (list_all is_whole_text e.texts) d.1).0
 
-pub is_front : (w : Whole) → CanonicalReadsBack → IsDescription w.entry → IsWhole w → are_capabilities w.extended ≡ true → length w.entry.names + 1 ≤ 128 → length (canonical w.entry) ≤ 4096
+pub is_front : (w : Whole) → LongNamesReadBack → IsDescription w.entry → IsWhole w → are_capabilities w.extended ≡ true → length (canonical w.entry) ≤ 4096
     → IsFront (width_of w) (front_form w) w
-is_front w back d h good named short = by_great (has_great w) refl
+is_front w back d h good short = by_great (has_great w) refl
   where
     f : IsFile Legacy (canonical w.entry) w.entry []
-    f = (back w.entry d named short).0
+    f = (back w.entry d short).0
 
     by_great : (b : Bool) → has_great w ≡ b → IsFront (cond b Wide Legacy) (cond b (widened w.numbers (canonical w.entry)) (canonical w.entry)) w
     by_great true e = wide_front w d h good f short
@@ -239,9 +239,9 @@ with_section width front w f good small =
       are_good = good;
     }
 
-pub whole_form_reads_back : CanonicalReadsBack → FilesHaveOneEntry → WholeFormReadsBack
-whole_form_reads_back back once w d h good named short small =
-    let is : IsWholeFile (whole_form w) w = with_section (width_of w) (front_form w) w (is_front w back d h good named short) good small in
+pub whole_form_reads_back : LongNamesReadBack → FilesHaveOneEntry → WholeFormReadsBack
+whole_form_reads_back back once w d h good short small =
+    let is : IsWholeFile (whole_form w) w = with_section (width_of w) (front_form w) w (is_front w back d h good short) good small in
     (is, λ other f. files_have_one_whole once (whole_form w) other w f is)
 
 -- ---- where nothing is to be added

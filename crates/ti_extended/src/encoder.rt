@@ -1,5 +1,5 @@
 //! Writing a whole entry as a compiled file, in its one form.
-ghost use Rattle.std.specs.Prelude.{◌≡◌, ◌≤◌, ◌+◌, ◌++◌, IfOk, IsOkUnless, OnOk, length, nat_lt, if◌then◌else◌};
+ghost use Rattle.std.specs.Prelude.{◌≡◌, ◌≤◌, ◌+◌, ◌++◌, IfOk, IsErrOf, IsOkUnless, OnOk, length, nat_lt, if◌then◌else◌};
 ghost use Rattle.std.specs.List.{flat_map, list_any};
 ghost use Rattle.byteorder.specs.Endian.{little_bytes};
 ghost use Rattle.ti_binary.specs.Canonical.{canonical};
@@ -11,7 +11,7 @@ use crate::whole_entry::WholeEntry;
 use crate::words::word;
 use crate::writing::{Sizes, put_odd_byte, put_section, put_wide, put_word};
 use std::alloc::{AllocError, Global};
-use ti_binary::{EncFault, Width, canonical_reads_back, encode};
+use ti_binary::{EncFault, Width, encode_with_long_names, long_names_read_back};
 use ti_caps::Bytes;
 
 /// The magic number of a file with 32-bit numbers, octal 01036.
@@ -24,13 +24,16 @@ const MOST_BYTES: usize = 32_768;
 /// with 32-bit numbers if one is above 32,767, and then its extended capabilities, if there are any
 /// (term(5)).
 ///
-/// Refused with `NamesTooLong` if the names and their NUL have more than 128 bytes, with `TooLarge`
-/// if the entry by itself would have more than 4,096 or the whole file more than 32,768, then with
-/// `NoMemory`.
+/// Names of any length that an entry can have are written, which is up to 511 bytes and their NUL.
+///
+/// Refused with `TooLarge` if the entry by itself would have more than 4,096 bytes or the whole file
+/// more than 32,768, and with `NoMemory` if memory runs out.
 pub fn encode_whole(alloc: Global, whole: &WholeEntry) -> Result<Bytes, EncFault>
     ensures ok { IfOk result (λ bytes. bytes ≡ whole_form whole.now) }
+    ensures named { IsErrOf result EncFault.NamesTooLong → ⊥ }
+    ensures standard { OnOk result (length (canonical whole.now.entry) ≤ 4096) }
     ensures small { OnOk result (length (whole_form whole.now) ≤ 32768) }
-    ensures good { length whole.now.entry.names + 1 ≤ 128 → length (canonical whole.now.entry) ≤ 4096 → length (whole_form whole.now) ≤ 32768 → IsOkUnless result EncFault.NoMemory }
+    ensures good { length (canonical whole.now.entry) ≤ 4096 → length (whole_form whole.now) ≤ 32768 → IsOkUnless result EncFault.NoMemory }
 {
     let great = has_great(whole);
     let mut out = front(alloc, great, whole)?;
@@ -89,13 +92,15 @@ fn width_of(great: bool) -> Width
 fn front(alloc: Global, great: bool, whole: &WholeEntry) -> Result<Vec<u8>, EncFault>
     requires { great ≡ has_great whole.now }
     ensures ok { IfOk result (λ out. out.items ≡ front_form whole.now) }
+    ensures named { IsErrOf result EncFault.NamesTooLong → ⊥ }
+    ensures standard { OnOk result (length (canonical whole.now.entry) ≤ 4096) }
     ensures small { OnOk result (length (front_form whole.now) ≤ 4352) }
-    ensures good { length whole.now.entry.names + 1 ≤ 128 → length (canonical whole.now.entry) ≤ 4096 → IsOkUnless result EncFault.NoMemory }
+    ensures good { length (canonical whole.now.entry) ≤ 4096 → IsOkUnless result EncFault.NoMemory }
 {
-    canonical_reads_back();
+    long_names_read_back();
     let _own = whole.entry().names();
     let _more = whole.extended().names();
-    let Bytes(standard) = encode(alloc, whole.entry())?;
+    let Bytes(standard) = encode_with_long_names(alloc, whole.entry())?;
     if great {
         Ok(widened(alloc, &standard, whole.numbers())?)
     } else {

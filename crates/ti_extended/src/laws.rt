@@ -2,7 +2,7 @@
 //! `specs/WholeLaws.antt` states them.
 ghost use Rattle.ti_extended.specs.WholeLaws.{EntriesAreClamped, FilesHaveOneWhole, PlainFormsAreCanonical, WholeFormReadsBack};
 
-use ti_binary::{canonical_reads_back, files_have_one_entry};
+use ti_binary::{files_have_one_entry, long_names_read_back};
 
 /// Bytes are the file of at most one whole entry.
 pub fn files_have_one_whole()
@@ -22,7 +22,7 @@ pub fn entries_are_clamped()
 pub fn whole_form_reads_back()
     ensures { WholeFormReadsBack }
 {
-    canonical_reads_back();
+    long_names_read_back();
     files_have_one_entry();
 }
 

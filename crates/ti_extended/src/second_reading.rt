@@ -9,8 +9,8 @@ use crate::gathering::Gathered;
 use crate::resolving::{Resolved, resolve};
 use crate::whole_entry::WholeEntry;
 use std::alloc::Global;
-use ti_binary::{EncFault, decode};
-use ti_caps::{Bytes, CapFault, Slot};
+use ti_binary::EncFault;
+use ti_caps::{Bytes, CapFault, Entry, Slot};
 use ti_source::{Cause, Notes, SourceFault};
 
 /// What the entries of a source have besides what is read without `-x`.
@@ -50,24 +50,19 @@ impl<'a> SecondReading<'a> {
         }
     }
 
-    /// The whole file of the entry at an index, whose compiled file of the first reading is
-    /// `bytes`. Refused as `encode_whole`.
-    pub fn file(&self, alloc: Global, bytes: &[u8], entry: usize) -> Result<Bytes, EncFault> {
-        match self.whole(alloc, bytes, entry) {
+    /// The whole file of the entry at an index, which by the first reading resolves to `entry`.
+    /// Refused as by `encode_whole`.
+    pub fn file(&self, alloc: Global, entry: Entry, index: usize) -> Result<Bytes, EncFault> {
+        match self.whole(alloc, entry, index) {
             Ok(whole) => encode_whole(alloc, &whole),
             Err(_) => Err(EncFault::NoMemory),
         }
     }
 
-    // The whole entry. What is read from a file that was written is never refused, and what a
-    // source names is good, so only memory can run out.
-    fn whole(&self, alloc: Global, bytes: &[u8], entry: usize) -> Result<WholeEntry, WholeFault> {
-        let (standard, _) = match decode(alloc, bytes) {
-            Ok(read) => read,
-            Err(fault) => return Err(WholeFault::Standard(fault)),
-        };
-        let mut whole = WholeEntry::new(alloc, standard)?;
-        let extended = self.put_fields(alloc, &mut whole, entry)?;
+    // The whole entry. What a source names is good, so only memory can run out.
+    fn whole(&self, alloc: Global, entry: Entry, index: usize) -> Result<WholeEntry, WholeFault> {
+        let mut whole = WholeEntry::new(alloc, entry)?;
+        let extended = self.put_fields(alloc, &mut whole, index)?;
         Ok(whole.with_extended(extended))
     }
 

@@ -11,9 +11,9 @@ use crate::messages::error_message;
 use crate::notes::tell_notes;
 use crate::output::{print, write_files};
 use crate::report::add_size;
+use crate::whole::Compiler;
 use std::alloc::{AllocError, Global};
-use ti_caps::Bytes;
-use ti_compile::{CompiledEntry, EntryCompiler, TicFault};
+use ti_compile::{CompiledEntry, TicFault};
 use ti_extended::SecondReading;
 use ti_source::{Notes, Source, read_apart};
 
@@ -143,7 +143,7 @@ fn located_message(
 }
 
 fn compile_source<'a>(job: &Job<'_, '_>, purpose: Purpose<'_>) -> Result<(), Failure<'a>> {
-    let mut compiler = EntryCompiler::new(job.source);
+    let mut compiler = Compiler::new(job.source);
     match purpose {
         Purpose::Sizes => print_sizes(job, &mut compiler),
         Purpose::Files(directory) => write_all_files(job, &mut compiler, directory),
@@ -153,42 +153,17 @@ fn compile_source<'a>(job: &Job<'_, '_>, purpose: Purpose<'_>) -> Result<(), Fai
 // Compiles the next entry, whose index is `index`.
 fn next_entry<'a>(
     job: &Job<'_, '_>,
-    compiler: &mut EntryCompiler<'_>,
+    compiler: &mut Compiler<'_>,
     index: usize,
 ) -> Result<Option<CompiledEntry>, Failure<'a>> {
-    match compiler.next_entry(job.rt.alloc()) {
-        Ok(Some(entry)) => completed(job, entry, index),
-        Ok(None) => Ok(None),
+    match compiler.next_entry(job.rt.alloc(), index, job.more) {
+        Ok(entry) => Ok(entry),
         Err(fault) => Err(failure_of(job.rt.alloc(), job.text, fault, index)),
     }
 }
 
-// A compiled entry, with all that is kept of it.
-fn completed<'a>(
-    job: &Job<'_, '_>,
-    entry: CompiledEntry,
-    index: usize,
-) -> Result<Option<CompiledEntry>, Failure<'a>> {
-    let Some(more) = job.more else {
-        return Ok(Some(entry));
-    };
-    match more.file(job.rt.alloc(), &entry.bytes, index) {
-        Ok(bytes) => Ok(Some(with_bytes(entry, bytes))),
-        Err(fault) => Err(failure_of(job.rt.alloc(), job.text, fault.into(), index)),
-    }
-}
-
-fn with_bytes(entry: CompiledEntry, bytes: Bytes) -> CompiledEntry {
-    let CompiledEntry {
-        name,
-        paths,
-        bytes: _,
-    } = entry;
-    CompiledEntry { name, paths, bytes }
-}
-
 // Prints the name of each entry of a source, and the size of its file.
-fn print_sizes<'a>(job: &Job<'_, '_>, compiler: &mut EntryCompiler<'_>) -> Result<(), Failure<'a>> {
+fn print_sizes<'a>(job: &Job<'_, '_>, compiler: &mut Compiler<'_>) -> Result<(), Failure<'a>> {
     let mut sizes = Vec::with_capacity(job.rt.alloc(), job.source.len())?;
     add_sizes(job, compiler, &mut sizes)?;
     tell_notes(job)?;
@@ -198,7 +173,7 @@ fn print_sizes<'a>(job: &Job<'_, '_>, compiler: &mut EntryCompiler<'_>) -> Resul
 // Adds the sizes of all entries' files.
 fn add_sizes<'a>(
     job: &Job<'_, '_>,
-    compiler: &mut EntryCompiler<'_>,
+    compiler: &mut Compiler<'_>,
     sizes: &mut Vec<u16>,
 ) -> Result<(), Failure<'a>> {
     for i in 0..job.source.len() {
@@ -212,7 +187,7 @@ fn add_sizes<'a>(
 // The size of the next entry's file.
 fn next_size<'a>(
     job: &Job<'_, '_>,
-    compiler: &mut EntryCompiler<'_>,
+    compiler: &mut Compiler<'_>,
     index: usize,
 ) -> Result<Option<u16>, Failure<'a>> {
     match next_entry(job, compiler, index)? {
@@ -252,7 +227,7 @@ fn add_size_lines<'a>(
 // Writes the files of a source's entries below a folder.
 fn write_all_files<'a>(
     job: &Job<'_, '_>,
-    compiler: &mut EntryCompiler<'_>,
+    compiler: &mut Compiler<'_>,
     directory: &str,
 ) -> Result<(), Failure<'a>> {
     let mut held = Vec::new(job.rt.alloc());
@@ -268,7 +243,7 @@ fn write_all_files<'a>(
 // Compiles all entries, and holds them. Answers whether they are few enough for that.
 fn hold_entries<'a>(
     job: &Job<'_, '_>,
-    compiler: &mut EntryCompiler<'_>,
+    compiler: &mut Compiler<'_>,
     held: &mut Vec<CompiledEntry>,
 ) -> Result<bool, Failure<'a>> {
     let mut taken = 0usize;
@@ -281,7 +256,7 @@ fn hold_entries<'a>(
 // Compiles the next entry, and gives how many bytes are held with it.
 fn hold_next<'a>(
     job: &Job<'_, '_>,
-    compiler: &mut EntryCompiler<'_>,
+    compiler: &mut Compiler<'_>,
     index: usize,
     taken: usize,
     held: &mut Vec<CompiledEntry>,
@@ -334,7 +309,7 @@ fn write_entries<'a>(
 // Compiles the entries again, and writes the files of each.
 fn write_again<'a>(
     job: &Job<'_, '_>,
-    compiler: &mut EntryCompiler<'_>,
+    compiler: &mut Compiler<'_>,
     directory: &str,
 ) -> Result<(), Failure<'a>> {
     compiler.restart();
@@ -346,7 +321,7 @@ fn write_again<'a>(
 
 fn write_next<'a>(
     job: &Job<'_, '_>,
-    compiler: &mut EntryCompiler<'_>,
+    compiler: &mut Compiler<'_>,
     index: usize,
     directory: &str,
 ) -> Result<(), Failure<'a>> {

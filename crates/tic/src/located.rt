@@ -126,7 +126,8 @@ fn bad_file_name(source: &[u8], index: usize) -> Option<Located<'_>> {
     None
 }
 
-fn is_file_name(name: &[u8]) -> bool {
+/// Whether a name can be that of a file: it contains no `/`, and is neither `.` nor `..`.
+pub(crate) fn is_file_name(name: &[u8]) -> bool {
     !name.contains(&b'/') && !matches!(name, [b'.'] | [b'.', b'.'])
 }
 

@@ -3,8 +3,8 @@
 //! `tic -c FILE` compiles FILE and prints the first name of each entry and the size of its compiled
 //! file, one entry a line. `tic -o DIR FILE` writes the files below DIR, one for each name of an
 //! entry, and prints nothing. `tic -d COMPILED` prints a compiled file as source. If FILE or
-//! COMPILED is `-`, it is the standard input. With `-x` the names of term.h that the capability table does not have, names of an
-//! entry's own and numbers above 32,767 are kept too.
+//! COMPILED is `-`, it is the standard input. With `-x` the names of term.h that the capability table
+//! does not have, names of an entry's own and numbers above 32,767 are kept too.
 //!
 //! Notes on doubtful fields, and what a listing leaves out, go to standard error. An error is printed
 //! there as `tic: ` and its text; with `-v` errors and notes begin with the file, the line and the
@@ -24,6 +24,7 @@ mod output;
 mod places;
 mod report;
 mod uses;
+mod whole;
 mod words;
 
 use clap::ArgMatches;
