@@ -12,6 +12,7 @@ mod programs;
 mod sources;
 mod subjects;
 mod table;
+mod wholes;
 
 use check_harness::checking::check_input;
 use std::process::ExitCode;

@@ -37,6 +37,13 @@
 //! - `paths NAME VARIABLE=VALUE..`: the paths at which the entry of a name is looked for, where these variables are
 //!   set
 //! - `look-up NAME VARIABLE=VALUE..`: the entry that is found there
+//! - `whole SOURCE`: the compiled file of a source's first entry with all that `tic -x` keeps, which is then the file, and
+//!   what is still doubtful in the source, LINE CAUSE NAME
+//! - `decode-whole`: the whole entry of the file: its entry, `great N VALUE` for each number above 32,767, and `flag NAME`,
+//!   `number NAME VALUE` and `text NAME TEXT` for each extended capability
+//! - `encode-whole`, `print-whole`: the compiled file of that whole entry; its source text, and how many capabilities
+//!   that leaves out
+//! - `is-extended-name TEXT`: whether an extended capability can have this name
 //! - `list`: the text of the file, how many capabilities that leaves out, and how many bytes follow
 //! - `padding TEXT`: the text without padding
 //! - `vars`: sets the static variables to 0
@@ -57,6 +64,7 @@ use crate::inputs::answer_of_input;
 use crate::programs::{answer_of_programs, run};
 use crate::sources::{add_list, answer_of_meaning, answer_of_source, resolve};
 use crate::table::answer_of_table;
+use crate::wholes::answer_of_whole;
 use check_harness::answers::{add_name, add_text, add_word};
 use check_harness::buffers::Buffer;
 use check_harness::checking::Subject;
@@ -155,6 +163,7 @@ impl TerminfoSubject {
             || answer_of_writing(alloc, &self.entry, &mut self.file, word, words, text, got)
             || answer_of_file(alloc, &self.file, word, got)
             || answer_of_changes(alloc, &self.file, word, words, text, got)
+            || answer_of_whole(alloc, &mut self.file, word, words, text, got)
             || answer_of_database(alloc, &self.store, word, words, text, got)
     }
 }
