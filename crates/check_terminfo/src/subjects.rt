@@ -37,10 +37,10 @@
 //! - `paths NAME VARIABLE=VALUE..`: the paths at which the entry of a name is looked for, where these variables are
 //!   set
 //! - `look-up NAME VARIABLE=VALUE..`: the entry that is found there
-//! - `whole SOURCE`: the compiled file of a source's first entry with all that `tic -x` keeps, which is then the file, and
-//!   what is still doubtful in the source, LINE CAUSE NAME
-//! - `decode-whole`: the whole entry of the file: its entry, `great N VALUE` for each number above 32,767, and `flag NAME`,
-//!   `number NAME VALUE` and `text NAME TEXT` for each extended capability
+//! - `whole SOURCE`: the compiled file of a source's first entry with all that `tic -x` keeps, which is then the file,
+//!   and what is still doubtful in the source, LINE CAUSE NAME
+//! - `decode-whole`: the whole entry of the file: its entry, `great N VALUE` for each number above 32,767, and `flag
+//!   NAME`, `number NAME VALUE` and `text NAME TEXT` for each extended capability
 //! - `encode-whole`, `print-whole`: the compiled file of that whole entry; its source text, and how many capabilities
 //!   that leaves out
 //! - `is-extended-name TEXT`: whether an extended capability can have this name

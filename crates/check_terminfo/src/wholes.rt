@@ -119,7 +119,7 @@ fn add_notes(notes: &Notes, more: &SecondReading<'_>, got: &mut Buffer) {
     }
 }
 
-// Adds a whole entry: its entry, the position of each number above 32,767 with its value, and its extended capabilities.
+// Adds a whole entry: its entry, each number above 32,767 after its position, and its extended capabilities.
 fn add_whole(whole: &WholeEntry, got: &mut Buffer) {
     add_entry(whole.entry(), got);
     for (position, number) in whole.numbers().iter().enumerate() {

@@ -14,8 +14,8 @@ FilesHaveOneWhole = (bytes : List ℕ) (whole other : Whole) → IsWholeFile byt
 abbrev pub EntriesAreClamped : Type 0
 EntriesAreClamped = (bytes : List ℕ) (whole : Whole) → IsWholeFile bytes whole → whole.entry.numbers ≡ map clamped whole.numbers
 
--- The form of a whole entry within the limits is a file of that entry and of no other. The names of an entry, which have
--- at most 511 bytes, are within them.
+-- The form of a whole entry within the limits is a file of that entry and of no other. The names of an entry, which
+-- have at most 511 bytes, are within them.
 abbrev pub WholeFormReadsBack : Type 0
 WholeFormReadsBack =
     (whole : Whole) → IsDescription whole.entry → IsWhole whole → are_capabilities whole.extended ≡ true
