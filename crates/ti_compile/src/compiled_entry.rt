@@ -1,12 +1,12 @@
 //! Compiling one entry to its file (term(5)).
 
-ghost use Rattle.std.specs.Prelude.{◌≡◌, ◌⊎◌, ◌++◌, IfErr, IfOk, None, Some, map, length, true};
+ghost use Rattle.std.specs.Prelude.{◌≡◌, ◌⊎◌, ◌++◌, IfErr, IfOk, None, Some, false, map, length, true};
 ghost use Rattle.std.specs.List.{list_all};
 ghost use Rattle.ti_binary.specs.Canonical.{canonical, renamed};
 ghost use Rattle.ti_caps.specs.Names.{are_names, first_name, reference_names};
 ghost use Rattle.ti_compile.specs.Compiling.{encoding_refusal, refusal_of};
 ghost use Rattle.ti_compile.specs.EntryCompiling.{IsCompiledOf};
-ghost use Rattle.ti_compile.specs.FileNames.{path_of};
+ghost use Rattle.ti_compile.specs.FileNames.{is_file_name, path_of};
 ghost use Rattle.ti_compile.specs.Faults.{IsPlain};
 
 use crate::faults::TicFault;
@@ -54,6 +54,21 @@ pub(crate) fn compiled_entry(
     let paths = paths_of(alloc, &references)?;
     let name = Bytes(Vec::from_slice(alloc, first_name(names))?);
     Ok(CompiledEntry { name, paths, bytes })
+}
+
+/// The paths of an entry's files below a folder: one for each of its reference names, in order
+/// (term(5), 'Storage Location').
+///
+/// Refused with `BadFileName` if one of these cannot be a file name, and with `NoMemory`.
+pub fn paths_under(alloc: Global, names: &[u8]) -> Result<Paths, TicFault>
+    ensures ok { IfOk result (λ paths. (list_all is_file_name (reference_names names.now) ≡ true) × (paths ≡ map path_of (reference_names names.now))) }
+    ensures err { IfErr result (λ f. (f ≡ TicFault.NoMemory) ⊎ ((f ≡ TicFault.BadFileName) × (list_all is_file_name (reference_names names.now) ≡ false))) }
+{
+    let references = reference_names(alloc, names)?;
+    if !are_file_names(&references) {
+        return Err(TicFault::BadFileName);
+    }
+    Ok(paths_of(alloc, &references)?)
 }
 
 /// The bytes of the file of an entry under these names, and its reference names; refused if it has

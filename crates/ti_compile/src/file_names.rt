@@ -25,7 +25,7 @@ pub(crate) fn reference_names(alloc: Global, names: &[u8]) -> Result<Vec<&[u8]>,
 }
 
 /// Whether this can be a file name: it contains no `/`, and is neither `.` nor `..`.
-pub(crate) fn is_file_name(name: &[u8]) -> bool
+pub fn is_file_name(name: &[u8]) -> bool
     ensures { result ≡ is_file_name name.now }
 {
     !has_slash(name) && !is_dots(name)

@@ -12,10 +12,11 @@ mod laws;
 mod lister;
 mod written;
 
-pub use compiled_entry::{CompiledEntry, Paths};
+pub use compiled_entry::{CompiledEntry, Paths, paths_under};
 pub use compiler::{Compiled, Notes, compile};
 pub use entry_compiler::EntryCompiler;
 pub use faults::TicFault;
+pub use file_names::is_file_name;
 pub use laws::{compiled_sources_have_no_fault, sources_compile_once, sources_have_one_fault};
 pub use lister::{Listing, list};
 pub use written::{Files, Sizes};

@@ -6,7 +6,7 @@ use crate::uses::{faulty_use, one_use_too_many};
 use bstr::ByteSlice;
 use std::alloc::{AllocError, Global};
 use ti_caps::has_no_blank;
-use ti_compile::TicFault;
+use ti_compile::{TicFault, is_file_name};
 use ti_source::SourceFault;
 
 /// Where an error is.
@@ -124,11 +124,6 @@ fn bad_file_name(source: &[u8], index: usize) -> Option<Located<'_>> {
         }
     }
     None
-}
-
-/// Whether a name can be that of a file: it contains no `/`, and is neither `.` nor `..`.
-pub(crate) fn is_file_name(name: &[u8]) -> bool {
-    !name.contains(&b'/') && !matches!(name, [b'.'] | [b'.', b'.'])
 }
 
 // The first name on a line that an earlier entry has.

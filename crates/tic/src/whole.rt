@@ -1,9 +1,8 @@
 //! Compiling the entries of a source one by one, as without `-x` or with all that it keeps.
 
-use crate::located::is_file_name;
 use std::alloc::Global;
-use ti_caps::{Bytes, Entry, first_name, has_no_blank};
-use ti_compile::{CompiledEntry, EntryCompiler, Paths, TicFault};
+use ti_caps::{Bytes, Entry, first_name};
+use ti_compile::{CompiledEntry, EntryCompiler, TicFault, paths_under};
 use ti_extended::SecondReading;
 use ti_source::{Resolver, Source};
 
@@ -75,29 +74,7 @@ fn compiled(
 
 // The bytes of a file under these names.
 fn under(alloc: Global, names: &[u8], bytes: Bytes) -> Result<CompiledEntry, TicFault> {
-    let paths = paths_of(alloc, names)?;
+    let paths = paths_under(alloc, names)?;
     let name = Bytes(Vec::from_slice(alloc, first_name(names))?);
     Ok(CompiledEntry { name, paths, bytes })
-}
-
-// The paths of an entry's files below a folder: one for each of its names that has no blank.
-fn paths_of(alloc: Global, names: &[u8]) -> Result<Paths, TicFault> {
-    let mut paths = Vec::new(alloc);
-    for name in names.split(|b| *b == b'|') {
-        if has_no_blank(name) {
-            paths.push(path_of(alloc, name)?)?;
-        }
-    }
-    Ok(Paths(paths))
-}
-
-// The path of the file for a name: `t1` has `t/t1`.
-fn path_of(alloc: Global, name: &[u8]) -> Result<Bytes, TicFault> {
-    if !is_file_name(name) {
-        return Err(TicFault::BadFileName);
-    }
-    let mut path = Vec::from_slice(alloc, name.get(..1).unwrap_or(name))?;
-    path.push(b'/')?;
-    path.extend_from_slice(name)?;
-    Ok(Bytes(path))
 }
