@@ -150,9 +150,7 @@ fn send_character<W: Counted>(byte: u8, waiting: &mut Vec<u8>, out: &mut W) -> T
     taken
 }
 
-// Appends the text of an operation to an empty buffer that has room for it, so this cannot fail. It is called, so that
-// the loop over characters stays short.
-#[inline(never)]
+// Appends the text of an operation to an empty buffer that has room for it, so this cannot fail.
 fn append(profile: &Profile, op: Op, waiting: &mut Vec<u8>)
     requires has { has profile.now op ≡ true }
     requires nothing { waiting.old.items ≡ [] }

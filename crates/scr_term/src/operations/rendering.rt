@@ -66,7 +66,6 @@ impl Profile {
     ///
     /// Fails only when memory runs out, and then appends nothing; never fails if `out` has room for
     /// the bytes. The capacity of `out` never shrinks.
-    #[inline(always)]
     pub fn render(&self, op: Op, out: &mut Vec<u8>) -> Result<(), NoMemory>
         requires { IsTrue (has self.now op) }
         ensures ok { OnOk result (out.new.items ≡ out.old.items ++ bytes_of self.now op) }
@@ -95,7 +94,8 @@ impl Profile {
         Ok(())
     }
 
-    // Appends a character in UTF-8.
+    // Appends a character in UTF-8. It is called, so that the other operations need no room for its bytes.
+    #[inline(never)]
     #[tactic(auto, using(crate::proofs::RenderingLaws::bytes_of_written))]
     fn render_encoded(&self, character: char, out: &mut Vec<u8>) -> Result<(), NoMemory>
         requires { IsTrue (has self.now (Write character)) }
@@ -276,9 +276,7 @@ impl Profile {
     }
 }
 
-// Appends the UTF-8 encoding of a character (RFC 3629). It is called, so that the other operations need no room for its
-// bytes.
-#[inline(never)]
+// Appends the UTF-8 encoding of a character (RFC 3629).
 fn append_encoded(character: char, out: &mut Vec<u8>) -> Result<(), NoMemory>
     ensures ok { OnOk result (out.new.items ≡ out.old.items ++ encode_utf8 character) }
     ensures err { OnErr result (out.new.items ≡ out.old.items) }
