@@ -75,8 +75,23 @@ impl Profile {
     {
         match op {
             Op::Put(byte) => self.render_character(byte, out),
-            Op::Write(character) => self.render_encoded(character, out),
             Op::Move(row, column) => self.render_address(row, column, out),
+            _ => self.render_other(op, out),
+        }
+    }
+
+    // Appends the bytes of any other operation. It is a function of its own since a fourth arm above would make its
+    // `match` a jump table, which characters and addresses then pay for.
+    #[inline(never)]
+    fn render_other(&self, op: Op, out: &mut Vec<u8>) -> Result<(), NoMemory>
+        requires { IsTrue (has self.now op) }
+        ensures ok { OnOk result (out.new.items ≡ out.old.items ++ bytes_of self.now op) }
+        ensures err { OnErr result (out.new.items ≡ out.old.items) }
+        ensures room { OnErr result (vec_capacity out.old < vec_len out.old + length (bytes_of self.now op)) }
+        ensures kept { vec_capacity out.old ≤ vec_capacity out.new }
+    {
+        match op {
+            Op::Write(character) => self.render_encoded(character, out),
             _ => self.render_any(op, out),
         }
     }
@@ -94,8 +109,7 @@ impl Profile {
         Ok(())
     }
 
-    // Appends a character in UTF-8. It is called, so that the other operations need no room for its bytes.
-    #[inline(never)]
+    // Appends a character in UTF-8.
     #[tactic(auto, using(crate::proofs::RenderingLaws::bytes_of_written))]
     fn render_encoded(&self, character: char, out: &mut Vec<u8>) -> Result<(), NoMemory>
         requires { IsTrue (has self.now (Write character)) }
@@ -276,7 +290,9 @@ impl Profile {
     }
 }
 
-// Appends the UTF-8 encoding of a character (RFC 3629).
+// Appends the UTF-8 encoding of a character (RFC 3629). It is called, so that the other operations need no room for its
+// bytes.
+#[inline(never)]
 fn append_encoded(character: char, out: &mut Vec<u8>) -> Result<(), NoMemory>
     ensures ok { OnOk result (out.new.items ≡ out.old.items ++ encode_utf8 character) }
     ensures err { OnErr result (out.new.items ≡ out.old.items) }
