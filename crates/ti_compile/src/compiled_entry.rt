@@ -64,10 +64,7 @@ pub fn paths_under(alloc: Global, names: &[u8]) -> Result<Paths, TicFault>
     ensures ok { IfOk result (λ paths. (list_all is_file_name (reference_names names.now) ≡ true) × (paths ≡ map path_of (reference_names names.now))) }
     ensures err { IfErr result (λ f. (f ≡ TicFault.NoMemory) ⊎ ((f ≡ TicFault.BadFileName) × (list_all is_file_name (reference_names names.now) ≡ false))) }
 {
-    let references = reference_names(alloc, names)?;
-    if !are_file_names(&references) {
-        return Err(TicFault::BadFileName);
-    }
+    let references = file_names(alloc, names)?;
     Ok(paths_of(alloc, &references)?)
 }
 
@@ -86,11 +83,22 @@ pub(crate) fn file_of<'n>(
     ensures plain { IfErr result IsPlain }
 {
     let bytes = encoded(alloc, entry, names)?;
+    let references = file_names(alloc, names)?;
+    Ok((bytes, references))
+}
+
+// The reference names of an entry; refused with `BadFileName` if one of them cannot be a file name, and with
+// `NoMemory`.
+fn file_names(alloc: Global, names: &[u8]) -> Result<Vec<&[u8]>, TicFault>
+    ensures ok { IfOk result (λ r. (list_all is_file_name (reference_names names.now) ≡ true) × (map (λ name. name.now) r.items ≡ reference_names names.now)) }
+    ensures err { IfErr result (λ f. (f ≡ TicFault.NoMemory) ⊎ ((f ≡ TicFault.BadFileName) × (list_all is_file_name (reference_names names.now) ≡ false))) }
+    ensures plain { IfErr result IsPlain }
+{
     let references = reference_names(alloc, names)?;
     if !are_file_names(&references) {
         return Err(TicFault::BadFileName);
     }
-    Ok((bytes, references))
+    Ok(references)
 }
 
 // The written form of an entry under these names.
