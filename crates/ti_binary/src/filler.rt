@@ -1,13 +1,12 @@
 //! Filling an entry with what the sections of a file say.
-ghost use Rattle.std.specs.Prelude.{◌≡◌, ◌≤◌, ◌*◌, false, length, map, option_map, replicate, IfErr, OnOk, None};
-ghost use Rattle.ti_caps.specs.Description.{text_has_nul};
+ghost use Rattle.std.specs.Prelude.{◌≡◌, ◌≤◌, ◌*◌, false, length, map, replicate, IfErr, OnOk, None};
 ghost use Rattle.ti_binary.specs.Files.{clamped_count, flag_said, number_said, numbers_in, numbers_size, padded, text_said, words_in};
 
 use crate::faults::BinFault;
 use crate::parts::word;
-use crate::texts::{before_nul, rest_from};
+use crate::texts::text_said;
 use crate::widths::Width;
-use ti_caps::{CapFault, Entry, MOST_NUMBER, Slot};
+use ti_caps::{CapFault, Entry, Slot};
 
 /// Sets the flags that a section says are present, in an entry without flags.
 pub(crate) fn set_flags(entry: &mut Entry, flags: &[u8])
@@ -31,7 +30,7 @@ pub(crate) fn set_numbers(entry: &mut Entry, width: Width, numbers: &[u8], count
 {
     let mut clamped = 0;
     for slot in 0..count {
-        let number = width.number(numbers, slot);
+        let number = width.number(numbers, usize::from(slot));
         let _ = entry.set_number(Slot(slot), width.said(number));
         clamped += u16::from(width.is_clamped(number));
     }
@@ -68,17 +67,5 @@ pub(crate) fn want_of_memory(fault: CapFault) -> BinFault
     match fault {
         CapFault::NoMemory => BinFault::NoMemory,
         CapFault::BadNames | CapFault::SlotTooBig | CapFault::NulInText => BinFault::BadNames,
-    }
-}
-
-// The text at an offset, up to a NUL of the table.
-fn text_said(table: &[u8], offset: u16) -> Option<&[u8]>
-    ensures value { option_map (λ t. t.now) result ≡ text_said table.now offset }
-    ensures whole { text_has_nul (option_map (λ t. t.now) result) ≡ false }
-{
-    if offset <= MOST_NUMBER {
-        Some(before_nul(rest_from(table, usize::from(offset))))
-    } else {
-        None
     }
 }

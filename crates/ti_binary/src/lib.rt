@@ -20,4 +20,7 @@ pub use faults::BinFault;
 pub use laws::{
     canonical_reads_back, files_are_not_refused, files_have_one_entry, long_names_read_back,
 };
+pub use parts::word;
+pub use sections::put_word;
+pub use texts::{before_nul, has_nul, rest_from, text_said};
 pub use widths::Width;

@@ -12,7 +12,7 @@ use ti_caps::{MOST_FLAGS, MOST_NUMBER, MOST_NUMBERS, MOST_TEXTS};
 const MOST_BYTES: usize = 32_768;
 
 /// The 16-bit number at an offset, the lower byte first.
-pub(crate) fn word(bytes: &[u8], offset: usize) -> u16
+pub fn word(bytes: &[u8], offset: usize) -> u16
     requires { offset + 2 ≤ length bytes.now }
     ensures { result ≡ word_at bytes.now offset }
 {
@@ -83,7 +83,9 @@ pub(crate) fn check_room(width: Width, bytes: &[u8]) -> Result<(), BinFault>
     }
     let (names, flags, table) = (usize::from(names), usize::from(flags), usize::from(table));
     let front = 12 + names + flags + (names + flags) % 2;
-    if bytes.len() < front + width.size_of(numbers) + 2 * usize::from(offsets) + table {
+    if bytes.len()
+        < front + width.size_of(usize::from(numbers)) + 2 * usize::from(offsets) + table
+    {
         return Err(BinFault::Truncated);
     }
     Ok(())
@@ -108,7 +110,7 @@ pub(crate) fn cut(width: Width, bytes: &[u8]) -> Parts<'_>
     let (numbers, offsets, table) = (word(bytes, 6), word(bytes, 8), word(bytes, 10));
     let flags_place = 12 + names;
     let numbers_place = flags_place + flags + (names + flags) % 2;
-    let offsets_place = numbers_place + width.size_of(numbers);
+    let offsets_place = numbers_place + width.size_of(usize::from(numbers));
     let table_place = offsets_place + 2 * usize::from(offsets);
     let end = table_place + usize::from(table);
     Parts {

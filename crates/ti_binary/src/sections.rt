@@ -10,8 +10,8 @@ use ti_caps::{Entry, Slot};
 /// The number or offset of something absent.
 const ABSENT: u16 = 0xFFFF;
 
-/// Appends a 16-bit number, the lower byte first.
-pub(crate) fn put_word(n: u16, out: &mut Vec<u8>) -> Result<(), AllocError>
+/// Appends a 16-bit number, the lower byte first. Fails only when memory runs out.
+pub fn put_word(n: u16, out: &mut Vec<u8>) -> Result<(), AllocError>
     ensures { OnOk result (out.new.items ≡ out.old.items ++ word n) }
 {
     let mut pair = [0u8; 2];

@@ -1,5 +1,5 @@
 //! How many bits the numbers of a compiled file have, and what such a number says.
-ghost use Rattle.std.specs.Prelude.{◌≡◌, ◌≤◌, ◌<◌, ◌+◌, length, IfSome};
+ghost use Rattle.std.specs.Prelude.{◌≡◌, ◌≤◌, ◌<◌, ◌+◌, ◌*◌, length, IfSome};
 ghost use Rattle.ti_binary.specs.Files.{is_clamped, magic_of, most_of, nth_number, number_said, numbers_size, wrong_magic};
 
 use crate::faults::BinFault;
@@ -45,26 +45,27 @@ impl Width {
         }
     }
 
-    /// How many bytes so many numbers take.
-    pub(crate) fn size_of(self, count: u16) -> usize
-        requires few { count ≤ 64 }
+    /// How many bytes so many numbers of a file take.
+    pub fn size_of(self, count: usize) -> usize
+        requires few { count ≤ 65535 }
         ensures size { result ≡ numbers_size self count }
-        ensures small { result ≤ 256 }
+        ensures small { result ≤ 4 * count }
     {
         match self {
-            Width::Legacy => 2 * usize::from(count),
-            Width::Wide => 4 * usize::from(count),
+            Width::Legacy => 2 * count,
+            Width::Wide => 4 * count,
         }
     }
 
     /// One number of a section, the lower bytes first.
-    pub(crate) fn number(self, section: &[u8], index: u16) -> u32
-        requires { numbers_size self (index + 1) ≤ length section.now }
+    pub fn number(self, section: &[u8], index: usize) -> u32
+        requires few { index ≤ 65535 }
+        requires room { numbers_size self (index + 1) ≤ length section.now }
         ensures { result ≡ nth_number self section.now index }
     {
         match self {
-            Width::Legacy => u32::from(word(section, 2 * usize::from(index))),
-            Width::Wide => LittleEndian::read_u32(&section[4 * usize::from(index)..]),
+            Width::Legacy => u32::from(word(section, 2 * index)),
+            Width::Wide => LittleEndian::read_u32(&section[4 * index..]),
         }
     }
 
@@ -88,9 +89,10 @@ impl Width {
         number <= self.most() && number > u32::from(MOST_NUMBER)
     }
 
-    // The greatest number that is not negative.
-    fn most(self) -> u32
-        ensures { result ≡ most_of self }
+    /// The greatest number that is not negative.
+    pub fn most(self) -> u32
+        ensures value { result ≡ most_of self }
+        ensures small { result ≤ 2147483647 }
     {
         match self {
             Width::Legacy => u32::from(MOST_NUMBER),

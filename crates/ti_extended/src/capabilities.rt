@@ -6,9 +6,9 @@ ghost use Rattle.ti_extended.specs.Refusals.{capabilities_refusal};
 ghost use Rattle.ti_extended.specs.Whole.{are_capabilities, are_distinct, begins_field, is_extended_name, is_field_byte, is_small, is_whole_text, no_capabilities};
 
 use crate::faults::WholeFault;
-use crate::words::has_nul;
 use std::alloc::Global;
 use std::marker::Model;
+use ti_binary::has_nul;
 use ti_caps::Bytes;
 use ti_caps::standard::find_name;
 

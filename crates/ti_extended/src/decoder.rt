@@ -10,10 +10,9 @@ use crate::faults::WholeFault;
 use crate::numbers::whole_numbers;
 use crate::reading::capabilities_in;
 use crate::whole_entry::WholeEntry;
-use crate::words::rest_from;
 use std::alloc::Global;
 use ti_binary::{
-    BinFault, Width, decode, decode_wide, files_are_not_refused, files_have_one_entry,
+    BinFault, Width, decode, decode_wide, files_are_not_refused, files_have_one_entry, rest_from,
 };
 use ti_caps::Entry;
 

@@ -8,10 +8,9 @@ ghost use Rattle.ti_extended.specs.Forms.{aligned, front_form, has_great, is_gre
 
 use crate::capabilities::Extended;
 use crate::whole_entry::WholeEntry;
-use crate::words::word;
-use crate::writing::{Sizes, put_odd_byte, put_section, put_wide, put_word};
+use crate::writing::{Sizes, put_odd_byte, put_section, put_wide};
 use std::alloc::{AllocError, Global};
-use ti_binary::{EncFault, Width, encode_with_long_names, long_names_read_back};
+use ti_binary::{EncFault, Width, encode_with_long_names, long_names_read_back, put_word, word};
 use ti_caps::Bytes;
 
 /// The magic number of a file with 32-bit numbers, octal 01036.

@@ -5,9 +5,9 @@ ghost use Rattle.ti_binary.specs.Files.{end_place, numbers_in, numbers_of, numbe
 ghost use Rattle.ti_extended.specs.Sections.{whole_said};
 ghost use Rattle.ti_extended.specs.Whole.{is_small_number};
 
-use crate::words::{number_at, numbers_size, whole_said, word};
+use crate::words::whole_said;
 use std::alloc::{AllocError, Global};
-use ti_binary::Width;
+use ti_binary::{Width, word};
 use ti_caps::MOST_NUMBERS;
 
 /// The whole numbers of a compiled file, by position.
@@ -40,7 +40,7 @@ fn numbers_section(width: Width, bytes: &[u8]) -> &[u8]
 {
     let (names, flags) = (usize::from(word(bytes, 2)), usize::from(word(bytes, 4)));
     let place = 12 + names + flags + (names + flags) % 2;
-    &bytes[place..place + numbers_size(width, usize::from(word(bytes, 6)))]
+    &bytes[place..place + width.size_of(usize::from(word(bytes, 6)))]
 }
 
 fn add_numbers(
@@ -56,7 +56,7 @@ fn add_numbers(
     ensures small { OnOk result (list_all is_small_number numbers.new.items ≡ true) }
 {
     for i in 0..count {
-        numbers.push(whole_said(width, number_at(width, section, i)))?;
+        numbers.push(whole_said(width, width.number(section, i)))?;
     }
     Ok(())
 }

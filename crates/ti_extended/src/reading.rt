@@ -10,9 +10,9 @@ ghost use Rattle.ti_extended.specs.Whole.{are_capabilities};
 use crate::capabilities::Extended;
 use crate::faults::WholeFault;
 use crate::sections::{Parts, any_unended, any_unnamed, check_room, cut};
-use crate::words::{name_said, number_at, rest_from, text_said, whole_said, word};
+use crate::words::{name_said, whole_said};
 use std::alloc::{AllocError, Global};
-use ti_binary::Width;
+use ti_binary::{Width, rest_from, text_said, word};
 use ti_caps::Bytes;
 
 /// The extended capabilities of a section, which may be empty.
@@ -159,7 +159,7 @@ fn numbers_in(
 {
     let mut numbers = Vec::new(alloc);
     for i in 0..count {
-        let said = whole_said(width, number_at(width, section, i));
+        let said = whole_said(width, width.number(section, i));
         there.push(said.is_some())?;
         put_present(said, &mut numbers)?;
     }

@@ -7,8 +7,8 @@ ghost use Rattle.ti_binary.specs.Files.{is_unended, numbers_size, part, text_sai
 ghost use Rattle.ti_extended.specs.Sections.{end_place, flag_count, is_sound, is_unnamed, name_count, names_place, number_count, numbers_place, table_place, table_size, text_count, texts_place};
 
 use crate::faults::WholeFault;
-use crate::words::{is_unended, is_unnamed, numbers_size, text_said, word};
-use ti_binary::Width;
+use crate::words::{is_unended, is_unnamed};
+use ti_binary::{Width, word};
 
 /// The number of bytes of the header.
 const HEADER: usize = 10;
@@ -54,7 +54,7 @@ pub(crate) fn places_of(width: Width, section: &[u8]) -> Places
     let count = usize::from(word(section, 2));
     let texts_count = usize::from(word(section, 4));
     let numbers = HEADER + flags + flags % 2;
-    let texts = numbers + numbers_size(width, count);
+    let texts = numbers + width.size_of(count);
     let names = texts + 2 * texts_count;
     let table = names + 2 * (flags + count + texts_count);
     let end = table + usize::from(word(section, 8));

@@ -8,22 +8,10 @@ ghost use Rattle.ti_extended.specs.Sizes.{AreSizes};
 ghost use Rattle.ti_extended.specs.Whole.{Capabilities};
 
 use crate::capabilities::Extended;
-use crate::words::numbers_size;
 use byteorder::{ByteOrder, LittleEndian};
 use std::alloc::AllocError;
-use ti_binary::Width;
+use ti_binary::{Width, put_word};
 use ti_caps::Bytes;
-
-/// Appends a 16-bit number, the lower byte first.
-pub(crate) fn put_word(n: u16, out: &mut Vec<u8>) -> Result<(), AllocError>
-    ensures { OnOk result (out.new.items ≡ out.old.items ++ word n) }
-{
-    let mut pair = [0u8; 2];
-    LittleEndian::write_u16(&mut pair, n);
-    out.push(pair[0])?;
-    out.push(pair[1])?;
-    Ok(())
-}
 
 /// Appends a 32-bit number, the lower bytes first.
 pub(crate) fn put_wide(n: u32, out: &mut Vec<u8>) -> Result<(), AllocError>
@@ -181,7 +169,7 @@ impl Sizes {
         if self.names > 16_384 {
             return Self::MOST;
         }
-        let counted = 10 + self.flags + self.flags % 2 + numbers_size(width, self.numbers);
+        let counted = 10 + self.flags + self.flags % 2 + width.size_of(self.numbers);
         counted + 2 * self.texts + 2 * self.names + self.text_bytes + self.name_bytes
     }
 }

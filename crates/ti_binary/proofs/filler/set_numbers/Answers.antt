@@ -6,7 +6,7 @@ use Rattle.ti_binary.proofs.WordLaws.{at_most_one, count_more, one_if, said_leng
 use Rattle.ti_binary.proofs.filler.set_numbers.Goals as goal
 
 pub number-number-requires : goal.number-number-requires
-number-number-requires c = omega (arith, size_grows c.args.width (c.loop-slot.slot + 1) c.args.count (omega (arith, c.loop-slot-test.true)), c.requires.room)
+number-number-requires c = rw c.from.ensures (omega (arith, size_grows c.args.width (c.loop-slot.slot + 1) c.args.count (omega (arith, c.loop-slot-test.true)), c.requires.room))
 
 pub loop-slot-preserved : goal.loop-slot-preserved
 loop-slot-preserved c =
@@ -16,9 +16,10 @@ loop-slot-preserved c =
     let inside : i < 64 = omega (arith, c.loop-slot-test.true, c.requires.few) in
     let read : ℕ → ℕ = λ n. nth_number width numbers n in
     let here : Option ℕ = number_said width (read i) in
-    let said : c.said.result ≡ here = c.said.ensures.value ∙ ap (number_said width) c.number-number.ensures in
+    let number : c.number-number.result ≡ read i = c.number-number.ensures ∙ ap read c.from.ensures in
+    let said : c.said.result ≡ here = c.said.ensures.value ∙ ap (number_said width) number in
     let one : c.from-clamped.result ≡ cond (is_clamped width (read i)) 1 0 =
-    c.from-clamped.ensures ∙ one_if c.is_clamped.result ∙ ap (λ (b : Bool). cond {A = ℕ} b 1 0) (c.is_clamped.ensures ∙ ap (is_clamped width) c.number-number.ensures) in
+    c.from-clamped.ensures ∙ one_if c.is_clamped.result ∙ ap (λ (b : Bool). cond {A = ℕ} b 1 0) (c.is_clamped.ensures ∙ ap (is_clamped width) number) in
     record {
       set =
           on_ok c.set_number.result c.set_number.ensures.ok (c.set_number.ensures.fits inside)

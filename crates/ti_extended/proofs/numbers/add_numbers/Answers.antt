@@ -11,7 +11,7 @@ loop-i-preserved c =
     let g : ℕ → Option ℕ = whole_said width in
     let f : ℕ → ℕ = λ n. nth_number width section n in
     let i = c.loop-i.i in
-    let said : c.whole_said.result ≡ g (f i) = c.whole_said.ensures.value ∙ ap g c.number_at.ensures in
+    let said : c.whole_said.result ≡ g (f i) = c.whole_said.ensures.value ∙ ap g c.number.ensures in
     record {
       value =
           c.in_ok-push.ensures.items ∙ (λ k. c.loop-i.invariant.value k ++ said k ∷ [])

@@ -12,7 +12,7 @@ loop-i-preserved c =
     let g : ℕ → Option ℕ = whole_said width in
     let f : ℕ → ℕ = λ n. nth_number width section n in
     let i = c.loop-i.i in
-    let said : c.whole_said-said.result ≡ g (f i) = c.whole_said-said.ensures.value ∙ ap g c.number_at.ensures in
+    let said : c.whole_said-said.result ≡ g (f i) = c.whole_said-said.ensures.value ∙ ap g c.number.ensures in
     let there : c.is_some.result ≡ is_some (g (f i)) = c.is_some.ensures ∙ ap is_some said in
     record {
       there =

@@ -10,7 +10,7 @@ loop-i-preserved c =
     let g : ℕ → Option (List ℕ) = text_said c.args.table.now in
     let f : ℕ → ℕ = λ n. word_at offsets (2 * n) in
     let i = c.loop-i.i in
-    let said : option_map (λ t. t.now) c.text_said-said.result ≡ g (f i) = c.text_said-said.ensures ∙ ap g c.word.ensures in
+    let said : option_map (λ t. t.now) c.text_said-said.result ≡ g (f i) = c.text_said-said.ensures.value ∙ ap g c.word.ensures in
     let there : c.is_some.result ≡ is_some (g (f i)) = c.is_some.ensures ∙ sym (is_some-option_map (λ t. t.now) c.text_said-said.result) ∙ ap is_some said in
     record {
       there =
