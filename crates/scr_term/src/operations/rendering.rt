@@ -76,21 +76,21 @@ impl Profile {
         match op {
             Op::Put(byte) => self.render_character(byte, out),
             Op::Move(row, column) => self.render_address(row, column, out),
-            _ => self.render_other(op, out),
+            _ => self.render_other(&op, out),
         }
     }
 
     // Appends the bytes of any other operation. It is a function of its own since a fourth arm above would make its
     // `match` a jump table, which characters and addresses then pay for.
     #[inline(never)]
-    fn render_other(&self, op: Op, out: &mut Vec<u8>) -> Result<(), NoMemory>
-        requires { IsTrue (has self.now op) }
-        ensures ok { OnOk result (out.new.items ≡ out.old.items ++ bytes_of self.now op) }
+    fn render_other(&self, op: &Op, out: &mut Vec<u8>) -> Result<(), NoMemory>
+        requires { IsTrue (has self.now op.now) }
+        ensures ok { OnOk result (out.new.items ≡ out.old.items ++ bytes_of self.now op.now) }
         ensures err { OnErr result (out.new.items ≡ out.old.items) }
-        ensures room { OnErr result (vec_capacity out.old < vec_len out.old + length (bytes_of self.now op)) }
+        ensures room { OnErr result (vec_capacity out.old < vec_len out.old + length (bytes_of self.now op.now)) }
         ensures kept { vec_capacity out.old ≤ vec_capacity out.new }
     {
-        match op {
+        match *op {
             Op::Write(character) => self.render_encoded(character, out),
             _ => self.render_any(op, out),
         }
@@ -138,16 +138,16 @@ impl Profile {
     // Appends the bytes of any operation that the terminal has.
     #[inline(never)]
     #[tactic(auto, using(crate::proofs::RenderingLaws::bytes_of_one))]
-    fn render_any(&self, op: Op, out: &mut Vec<u8>) -> Result<(), NoMemory>
-        requires { IsTrue (has self.now op) }
-        ensures ok { OnOk result (out.new.items ≡ out.old.items ++ bytes_of self.now op) }
+    fn render_any(&self, op: &Op, out: &mut Vec<u8>) -> Result<(), NoMemory>
+        requires { IsTrue (has self.now op.now) }
+        ensures ok { OnOk result (out.new.items ≡ out.old.items ++ bytes_of self.now op.now) }
         ensures err { OnErr result (out.new.items ≡ out.old.items) }
-        ensures room { OnErr result (vec_capacity out.old < vec_len out.old + length (bytes_of self.now op)) }
+        ensures room { OnErr result (vec_capacity out.old < vec_len out.old + length (bytes_of self.now op.now)) }
         ensures kept { vec_capacity out.old ≤ vec_capacity out.new }
     {
         let before = out.len();
-        self.render_piece(self.first_sent(op), out)?;
-        if self.makes_colours_default(op) {
+        self.render_piece(self.first_sent(*op), out)?;
+        if self.makes_colours_default(*op) {
             if let Err(refused) = self.render_piece(text(Capability::Op), out) {
                 out.truncate(before);
                 return Err(refused);
