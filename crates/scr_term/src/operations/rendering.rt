@@ -81,7 +81,7 @@ impl Profile {
     }
 
     // Appends the bytes of any other operation. It is a function of its own: with characters in UTF-8 as a fourth arm
-    // above, painting from scratch took 38 instructions more a place.
+    // above, painting from scratch took 50 instructions more a place.
     #[inline(never)]
     fn render_other(&self, op: &Op, out: &mut Vec<u8>) -> Result<(), NoMemory>
         requires { IsTrue (has self.now op.now) }
