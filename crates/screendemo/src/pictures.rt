@@ -5,7 +5,7 @@ use crate::scripts::first_size;
 use scr_cells::{Attrs, Charset, Look, NoMemory, Size};
 use scr_term::Spot;
 use scr_terminal::EcmaScreen;
-use screen_scripts::{DemoFault, Output, cut_line, run};
+use screen_scripts::{DemoFault, Output, cut_line, run_as};
 use std::alloc::Global;
 
 // A place in pixels, and how far below its top the characters stand, and what underlines them.
@@ -51,7 +51,7 @@ pub fn picture(alloc: Global, charset: Charset, script: &[u8]) -> Result<Vec<u8>
         charset,
         is_raw: true,
     };
-    run(alloc, script, output, &mut bytes)?;
+    run_as(alloc, script, output, &mut bytes)?;
     match shown(alloc, charset, size, &bytes) {
         Ok(terminal) => drawn(alloc, &terminal).map_err(|_| DemoFault::NoMemory),
         Err(_) => Err(DemoFault::NoMemory),
