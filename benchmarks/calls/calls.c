@@ -1,4 +1,5 @@
-/* Makes one small call of curses.h again and again, 60 calls for each time.
+/* Makes one small call of curses.h again and again, 60 calls for each time: in a row, as a text is written, or scattered,
+   each at another place, with another attribute or on another window than the one before.
    Usage: calls CALL TIMES */
 #include <curses.h>
 #include <stdio.h>
@@ -90,6 +91,121 @@ static void add_texts(void)
     }
 }
 
+/* To a place far from the one before, in both directions. */
+static void move_far(int n)
+{
+    move(n * 7 % 23, n * 11 % 73);
+}
+
+static void move_scattered(void)
+{
+    int n;
+
+    for (n = 0; n < CALLS; n++)
+        move_far(n);
+}
+
+static void add_scattered(void)
+{
+    int n;
+
+    for (n = 0; n < CALLS; n++) {
+        move_far(n);
+        addch('a' + n % 16);
+    }
+}
+
+static void add_scattered_words(void)
+{
+    int n;
+
+    for (n = 0; n < CALLS; n++) {
+        move_far(n);
+        addstr("hello");
+    }
+}
+
+static void read_scattered(void)
+{
+    int n;
+
+    for (n = 0; n < CALLS; n++) {
+        move_far(n);
+        seen = (int)inch();
+    }
+}
+
+/* Two pens in turn. */
+static void take_pen(int n)
+{
+    attrset(n % 2 ? A_BOLD : A_REVERSE);
+}
+
+static void add_in_pens(void)
+{
+    int n;
+
+    begin_line();
+    for (n = 0; n < CALLS; n++) {
+        take_pen(n);
+        addch('a' + n % 16);
+    }
+}
+
+static void add_words_in_pens(void)
+{
+    int n;
+
+    for (n = 0; n < CALLS; n++) {
+        if (n % 15 == 0)
+            begin_line();
+        take_pen(n);
+        addstr("hello");
+    }
+}
+
+static void add_scattered_in_pens(void)
+{
+    int n;
+
+    for (n = 0; n < CALLS; n++) {
+        move_far(n);
+        take_pen(n);
+        addch('a' + n % 16);
+    }
+}
+
+/* One of four windows, six lines each. */
+static WINDOW *window_of(int n)
+{
+    static WINDOW *windows[4];
+
+    if (!windows[n % 4])
+        windows[n % 4] = newwin(6, 0, n % 4 * 6, 0);
+    return windows[n % 4];
+}
+
+static void add_on_windows(void)
+{
+    int n;
+
+    for (n = 0; n < CALLS; n++) {
+        if (n < 4)
+            wmove(window_of(n), 3, 3);
+        waddch(window_of(n), 'a' + n % 16);
+    }
+}
+
+static void add_words_on_windows(void)
+{
+    int n;
+
+    for (n = 0; n < CALLS; n++) {
+        wmove(window_of(n), n * 7 % 5, n * 11 % 73);
+        waddstr(window_of(n), "hello");
+    }
+}
+
 static void copy_nothing(void)
 {
     int n;
@@ -149,6 +265,10 @@ static const struct {
     {"move", move_cursor},   {"addch", add_characters},   {"addstr5", add_words},   {"addstr40", add_texts},
     {"begin", begin_line},   {"wnoutrefresh", copy_nothing}, {"turn", copy_in_turn}, {"refresh", show_nothing},
     {"erase", erase_all},    {"box", draw_box},       {"clrtoeol", erase_line},
+    {"far", move_scattered}, {"far-addch", add_scattered}, {"far-addstr5", add_scattered_words},
+    {"far-inch", read_scattered}, {"pens-addch", add_in_pens}, {"pens-addstr5", add_words_in_pens},
+    {"far-pens-addch", add_scattered_in_pens}, {"windows-addch", add_on_windows},
+    {"windows-addstr5", add_words_on_windows},
 };
 
 int main(int argc, char **argv)

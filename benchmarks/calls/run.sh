@@ -3,8 +3,10 @@
 # library and over ncurses: the same C sources on both sides, compiled as programs are, for 24x80 of the entry xterm,
 # written to /dev/null.
 # A call's figure is that of the call with the loop around it, from the difference of 12 times and 2 times 60 calls on a
-# screen of text that was shown. What is added begins with a move, which is counted by itself and taken away. The whole
-# of the program that starts is counted, with what the system does to load it, also over an ncurses that is linked in.
+# screen of text that was shown. In the first table calls come in a row; what is added begins with a move, which is
+# counted by itself and taken away. In the second they are scattered: each has another place, another pen or another
+# window than the one before, and what sets these is counted with it. The whole of the program that starts is counted,
+# with what the system does to load it, also over an ncurses that is linked in.
 # It needs valgrind, a C compiler, libncurses-dev, ncurses-base, and libhuttavel.a in c/, which make builds there.
 # Usage: benchmarks/calls/run.sh, from the top of the repository.
 set -e
@@ -48,8 +50,11 @@ row() {
 
 our_move=$(calls "$folder/calls" begin)
 their_move=$(calls "$folder/calls-ncurses" begin)
-echo "| Call | Ours | ncurses | Ratio |"
-echo "|---|---|---|---|"
+head() {
+    echo "| $1 | Ours | ncurses | Ratio |"
+    echo "|---|---|---|---|"
+}
+head Call
 row getyx '`getyx`' 0
 row attrset '`attrset`' 0
 row pair '`attrset` with a colour pair' 0
@@ -64,6 +69,18 @@ row refresh '`refresh`, nothing changed' 0
 row erase '`erase`' 0
 row box '`box`' 0
 row clrtoeol '`clrtoeol`' 0
+echo
+
+head 'Scattered calls'
+row far '`move`' 0
+row far-addch '`move` and `addch`' 0
+row far-addstr5 '`move` and `addstr` of 5 characters' 0
+row far-inch '`move` and `inch`' 0
+row pens-addch '`attrset` and `addch`, two pens in turn' 1
+row pens-addstr5 '`attrset` and `addstr` of 5 characters, two pens in turn' 4
+row far-pens-addch '`move`, `attrset` and `addch`' 0
+row windows-addch '`waddch`, four windows in turn' 4
+row windows-addstr5 '`wmove` and `waddstr` of 5 characters, four windows in turn' 0
 echo
 
 ours=$(count "$folder/start")

@@ -5,21 +5,28 @@
 # a third of the lines or all of them touched where the windows differ in every place. Then the windows are pages of
 # text: a character is typed in the middle and a status line counts it, forty places all over the screen change in three
 # pens, one page is shown for the other, all lines move by one, and a letter is typed into the middle of a line. Both
-# sides make the same calls, have the same entry (the bundled one, compiled by tic, for the last two changes with the
-# texts that insert and delete lines and characters), write into memory, and show the screen already when counting
-# begins. What comes before is counted by itself and taken away: the drawing, and for doupdate alone the taking too.
-# It needs valgrind, a C compiler, libncurses-dev, ncurses' tic, and the program crates/bench_screen, which `rt run`
-# builds.
+# sides make the same calls, write into memory, and show the screen already when counting begins. What comes before is
+# counted by itself and taken away: the drawing, and for doupdate alone the taking too.
+# There are two tables. In the first the entry is the bundled one, compiled by tic, for the last two changes with the
+# texts that insert and delete lines and characters, and ours are the calls of the library's own language. In the second
+# it is the machine's xterm, and ours is the same C source as theirs, over curses.h of here.
+# It needs valgrind, a C compiler, libncurses-dev, ncurses' tic, ncurses-base, the program crates/bench_screen, which
+# `rt run` builds, and libhuttavel.a in c/, which make builds there.
 # Usage: benchmarks/update/run.sh PROGRAM ["ROWS COLUMNS" ..], from the top of the repository.
 set -e
+here=$(dirname "$0")
+top=$here/../..
+[ -n "$1" ] && [ -e "$top/c/libhuttavel.a" ] || { sed -n 's/^# Usage: /usage: /p' "$0" >&2; exit 2; }
 program="$1 update"
 shift
 [ $# -gt 0 ] || set -- "24 80" "50 132" "100 300" "500 500"
-here=$(dirname "$0")
 folder=$(mktemp -d)
 trap 'rm -rf "$folder"' EXIT
 cc -O2 -o "$folder/update" "$here/update.c" -lncurses -ltinfo
-export TERMINFO="$folder/terminfo"
+make -s -C "$top/c" curses
+cc -O2 -I "$top/c" -I "$top/include" -o "$folder/ours" "$here/update.c" \
+    "$top/c/out/libhuttavel_curses.a" "$top/c/libhuttavel.a"
+export TERM TERMINFO="$folder/terminfo"
 tic -o "$TERMINFO" "$here/ecma48.ti"
 
 # The instructions of a command, and behind them what it prints.
@@ -54,20 +61,23 @@ stages() {
     echo "$((${whole% *} - ${drawing% *})) $((${whole% *} - ${taking% *})) ${whole#* }"
 }
 
-# row WORDS CHANGE ROWS COLUMNS NUMBER: a line of the table.
+# row WORDS CHANGE ROWS COLUMNS NUMBER: a line of the table of $ours on $entry.
 row() {
     words=$1
     shift
-    set -- "$words" "$2x$3" $(stages "$program" "$@") $(stages "$folder/update" "$@")
+    TERM=$entry
+    case $entry,$1 in
+    ecma48,moved | ecma48,letter) TERM=ecma48-moving ;;
+    esac
+    set -- "$words" "$2x$3" $(stages "$ours" "$@") $(stages "$folder/update" "$@")
     sent="-"
     [ "$8" = 0 ] || sent=$(ratio "$5" "$8")
     echo "$1 | $2 | $(tenths "$3") | $(tenths "$6") | $(ratio "$3" "$6") | $(tenths "$4") | $(tenths "$7") | $(ratio "$4" "$7") |" \
         "$(tenths "$5") | $(tenths "$8") | $sent"
 }
 
-echo "change | size | taking and doupdate: ours | ncurses | ratio | doupdate: ours | ncurses | ratio | bytes: ours | ncurses | ratio"
-for size in "$@"; do
-    set -- $size
+# rows ROWS COLUMNS: the lines of a size.
+rows() {
     row "nothing" lines "$1" "$2" 0
     row "one character" character "$1" "$2" 0
     row "one line" lines "$1" "$2" 1
@@ -78,4 +88,20 @@ for size in "$@"; do
     row "a page" page "$1" "$2" "$1"
     row "lines that move" moved "$1" "$2" "$1"
     row "a letter in a line" letter "$1" "$2" 0
-done
+}
+
+# table OURS ENTRY WORDS SIZE..: the lines of all sizes
+table() {
+    ours=$1 entry=$2
+    echo "$3"
+    shift 3
+    echo "change | size | taking and doupdate: ours | ncurses | ratio | doupdate: ours | ncurses | ratio | bytes: ours | ncurses | ratio"
+    for size in "$@"; do
+        # shellcheck disable=SC2086
+        rows $size
+    done
+}
+
+table "$program" ecma48 "the bundled entry:" "$@"
+echo
+table "$folder/ours" xterm "xterm:" "$@"

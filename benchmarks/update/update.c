@@ -1,4 +1,4 @@
-/* Draws, takes and updates by ncurses again and again, as crates/bench_screen does with ours.
+/* Draws, takes and updates by curses.h again and again, on the entry that TERM names. crates/bench_screen does the same.
    Usage: update draw|take|update character|lines|status|scattered|page|moved|letter ROWS COLUMNS NUMBER COUNT */
 #define _GNU_SOURCE
 #include <curses.h>
@@ -12,6 +12,9 @@
 /* What changes between two updates. */
 enum change { CHARACTER, LINES_OF_ONE, STATUS, SCATTERED, PAGE, MOVED, LETTER, CHANGES };
 static const char *const names[CHANGES] = {"character", "lines", "status", "scattered", "page", "moved", "letter"};
+
+/* A cell that was read. */
+static volatile chtype seen;
 
 /* Letters, each as often as it comes among 64 of an English text. */
 static const char letters[] = "eeeeeeeettttttaaaaaoooooiiiinnnnsssshhhhrrrrdddlllccuummwfgypbvk";
@@ -125,7 +128,7 @@ static void draw_scattered(int places, long done) {
 }
 
 /* Draws a change, and gives the window that it is in. */
-static WINDOW *draw(enum change change, WINDOW *const windows[2], int number, long done) {
+static WINDOW *begin(enum change change, WINDOW *const windows[2], int number, long done) {
     switch (change) {
     case CHARACTER: draw_character(done); break;
     case STATUS: draw_status(done); break;
@@ -134,6 +137,13 @@ static WINDOW *draw(enum change change, WINDOW *const windows[2], int number, lo
     default: wtouchln(windows[done % 2], 0, number, 1); return windows[done % 2];
     }
     return stdscr;
+}
+
+/* The same, and reads a cell of it: what was drawn may be kept until something is asked, which is the drawing's then. */
+static WINDOW *draw(enum change change, WINDOW *const windows[2], int number, long done) {
+    WINDOW *window = begin(change, windows, number, done);
+    seen = winch(window);
+    return window;
 }
 
 int main(int argc, char **argv) {
@@ -150,8 +160,8 @@ int main(int argc, char **argv) {
     setenv("COLUMNS", argv[4], 1);
     /* The output is a file in memory. */
     int memory = memfd_create("output", 0);
-    const char *entry = change == MOVED || change == LETTER ? "ecma48-moving" : "ecma48";
-    if (memory < 0 || !newterm(entry, fdopen(memory, "w"), fopen("/dev/null", "r"))) return 1;
+    const char *entry = getenv("TERM");
+    if (memory < 0 || !entry || !newterm(entry, fdopen(memory, "w"), fopen("/dev/null", "r"))) return 1;
     if (LINES != atoi(argv[3]) || COLS != atoi(argv[4])) return 1;
     /* No update looks for input. */
     typeahead(-1);

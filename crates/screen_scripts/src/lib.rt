@@ -20,4 +20,4 @@ pub use commands::{Command, read_command};
 pub use cuts::cut_line;
 pub use line_faults::LineFault;
 pub use printing::print_screen;
-pub use running::{DemoFault, Output, refusals, run};
+pub use running::{DemoFault, Output, refusals, run, run_as};

@@ -43,15 +43,31 @@ pub struct Output {
     pub is_raw: bool,
 }
 
-/// Runs a script. Writes the lines that a terminal shows at each update, and the refusals; or, if
-/// `output.is_raw`, the bytes that are sent to the terminal.
+/// Runs a script on a terminal in ASCII. Writes the lines that the terminal shows at each update, and the refusals; or,
+/// if `raw`, the bytes that are sent to the terminal.
 ///
 /// Refused at the first bad line, after writing the output of all lines before it; if a write or a
 /// flush of `out` fails, or a write accepts nothing; and if memory runs out. The output is flushed
 /// at the end of the script and before a bad line is reported; if that flush fails, its error is
 /// returned instead, also at a bad line. Whatever is returned, what was written is a beginning of
 /// the script's output.
-pub fn run<W: Write>(
+pub fn run<W: Write>(alloc: Global, script: &[u8], raw: bool, out: &mut W) -> Result<(), DemoFault>
+    ensures whole { OnOk result ((story_of script.now).bad_line ≡ None) }
+    ensures written { OnOk result (Writes Charset.Ascii raw script.now (story_of script.now).events (W.contents out.old) (W.contents out.new)) }
+    ensures bad { (n : ℕ) → IsErrOf result (DemoFault.BadCommand n) → (story_of script.now).bad_line ≡ Some n }
+    ensures before_bad { (n : ℕ) → IsErrOf result (DemoFault.BadCommand n)
+        → Writes Charset.Ascii raw script.now (story_of script.now).events (W.contents out.old) (W.contents out.new) }
+    ensures beginning { Begins Charset.Ascii raw script.now (W.contents out.old) (W.contents out.new) }
+{
+    let output = Output {
+        charset: Charset::Ascii,
+        is_raw: raw,
+    };
+    run_as(alloc, script, output, out)
+}
+
+/// Like `run`, on a terminal with the charset of `output`, and raw if that says so.
+pub fn run_as<W: Write>(
     alloc: Global,
     script: &[u8],
     output: Output,

@@ -9,7 +9,7 @@ use thiserror::Error;
 pub enum DemoFailure {
     /// The command line is not as the usage says.
     #[error("{0}")]
-    Words(clap::Error),
+    Words(String),
     /// A word of the command line is not text.
     #[error("the words are not all text")]
     NotText,

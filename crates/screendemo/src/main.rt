@@ -22,7 +22,7 @@ use pictures::picture;
 use program_input::{InputFault, read_input};
 use reasons::reason_at;
 use scr_cells::Charset;
-pub use screen_scripts::{DemoFault, Output, refusals, run};
+pub use screen_scripts::{DemoFault, Output, refusals, run, run_as};
 use std::io;
 use std::io::Write;
 use std::process::ExitCode;
@@ -78,7 +78,7 @@ fn perform(
 
 // Draws what a script says.
 fn draw(rt: &HostRuntime, output: Output, script: &[u8]) -> Result<(), DemoFailure> {
-    run(rt.alloc(), script, output, &mut io::writer(rt)).map_err(DemoFailure::Demo)
+    run_as(rt.alloc(), script, output, &mut io::writer(rt)).map_err(DemoFailure::Demo)
 }
 
 // Writes the lines of a script's refusals to standard error.

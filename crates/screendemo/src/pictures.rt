@@ -5,15 +5,17 @@ use crate::scripts::first_size;
 use scr_cells::{Attrs, Charset, Look, NoMemory, Size};
 use scr_term::Spot;
 use scr_terminal::EcmaScreen;
-use screen_scripts::{DemoFault, Output, cut_line, run};
+use screen_scripts::{DemoFault, Output, cut_line, run_as};
 use std::alloc::Global;
 
-// A place in pixels, and how far below its top the characters stand.
+// A place in pixels, and how far below its top the characters stand, and what underlines them.
 const WIDTH: u32 = 8;
 
 const HEIGHT: u32 = 17;
 
 const BASE: u32 = 13;
+
+const UNDERLINE: u32 = 15;
 
 // The colours from black to white, and the default ones.
 const COLOURS: [&[u8]; 8] = [
@@ -24,8 +26,18 @@ const INK: &[u8] = b"#d3d7cf";
 
 const PAPER: &[u8] = b"#1d1f21";
 
+// A rectangle in pixels.
+#[derive(Clone, Copy)]
+struct Area {
+    left: u32,
+    top: u32,
+    width: u32,
+    height: u32,
+}
+
 /// The picture of the screen that a terminal shows after a script; nothing for an empty script. A blinking character is
-/// slanted, a dim one pale, and an invisible one left out.
+/// slanted, a dim one pale, and an invisible one left out. Each character says where it stands, so that the columns are
+/// kept whatever the font.
 ///
 /// Refused at a bad line of the script, or with `NoMemory`.
 pub fn picture(alloc: Global, charset: Charset, script: &[u8]) -> Result<Vec<u8>, DemoFault> {
@@ -39,7 +51,7 @@ pub fn picture(alloc: Global, charset: Charset, script: &[u8]) -> Result<Vec<u8>
         charset,
         is_raw: true,
     };
-    run(alloc, script, output, &mut bytes)?;
+    run_as(alloc, script, output, &mut bytes)?;
     match shown(alloc, charset, size, &bytes) {
         Ok(terminal) => drawn(alloc, &terminal).map_err(|_| DemoFault::NoMemory),
         Err(_) => Err(DemoFault::NoMemory),
@@ -106,33 +118,58 @@ fn draw_stretch(row: u32, column: usize, looks: &[Look], page: &mut Page) {
         return;
     };
     let attrs = first.attrs();
-    let left = width_of(column);
-    let width = width_of(looks.len());
     let (ink, paper) = inks(*first);
+    let area = Area {
+        left: width_of(column),
+        top: row.saturating_mul(HEIGHT),
+        width: width_of(looks.len()),
+        height: HEIGHT,
+    };
     if paper != PAPER {
-        add_rectangle(row, left, width, page);
-        page.add(b"fill=\"");
-        page.add(paper);
-        page.add(b"\"/>\n");
+        add_rectangle(area, page);
+        add_fill(paper, page);
+        page.add(b"/>\n");
     }
-    let is_seen = has(attrs, Attrs::UNDERLINE) || looks.iter().any(|look| look.character() != ' ');
-    if is_seen && !has(attrs, Attrs::INVIS) {
-        page.add(b"<text x=\"");
-        page.add_value(&left);
-        page.add(b"\" y=\"");
-        page.add_value(&row.saturating_mul(HEIGHT).saturating_add(BASE));
-        page.add(b"\" textLength=\"");
-        page.add_value(&width);
-        page.add(b"\" xml:space=\"preserve\" fill=\"");
-        page.add(ink);
-        page.add(b"\"");
-        add_styles(attrs, page);
-        page.add(b">");
-        for look in looks {
-            add_character(look.character(), page);
-        }
-        page.add(b"</text>\n");
+    if has(attrs, Attrs::INVIS) {
+        return;
     }
+    if has(attrs, Attrs::UNDERLINE) {
+        draw_underline(area, ink, attrs, page);
+    }
+    if looks.iter().any(|look| look.character() != ' ') {
+        draw_text(area, ink, looks, page);
+    }
+}
+
+// Draws the line below the characters of an area. No font has it, so that it goes on from each character to the next.
+fn draw_underline(area: Area, ink: &[u8], attrs: Attrs, page: &mut Page) {
+    let line = Area {
+        top: area.top.saturating_add(UNDERLINE),
+        height: 1,
+        ..area
+    };
+    add_rectangle(line, page);
+    add_fill(ink, page);
+    add_paleness(attrs, page);
+    page.add(b"/>\n");
+}
+
+// Draws the characters of an area, all of one rendition.
+fn draw_text(area: Area, ink: &[u8], looks: &[Look], page: &mut Page) {
+    page.add(b"<text y=\"");
+    page.add_value(&area.top.saturating_add(BASE));
+    page.add(b"\" ");
+    add_fill(ink, page);
+    if let Some(first) = looks.first() {
+        add_styles(first.attrs(), page);
+    }
+    page.add(b">");
+    let mut left = area.left;
+    for look in looks {
+        add_character(left, look.character(), page);
+        left = left.saturating_add(WIDTH);
+    }
+    page.add(b"</text>\n");
 }
 
 // The width of so many places.
@@ -165,28 +202,43 @@ fn has(attrs: Attrs, attr: Attrs) -> bool {
     attrs.0 & attr.0 != 0
 }
 
+fn add_fill(colour: &[u8], page: &mut Page) {
+    page.add(b"fill=\"");
+    page.add(colour);
+    page.add(b"\"");
+}
+
 fn add_styles(attrs: Attrs, page: &mut Page) {
     if has(attrs, Attrs::BOLD) {
         page.add(b" font-weight=\"bold\"");
     }
-    if has(attrs, Attrs::UNDERLINE) {
-        page.add(b" text-decoration=\"underline\"");
-    }
     if has(attrs, Attrs::BLINK) {
         page.add(b" font-style=\"italic\"");
     }
+    add_paleness(attrs, page);
+}
+
+fn add_paleness(attrs: Attrs, page: &mut Page) {
     if has(attrs, Attrs::DIM) {
         page.add(b" opacity=\"0.6\"");
     }
 }
 
-fn add_character(character: char, page: &mut Page) {
+// Adds a character at its place, unless it is blank.
+fn add_character(left: u32, character: char, page: &mut Page) {
+    if character == ' ' {
+        return;
+    }
+    page.add(b"<tspan x=\"");
+    page.add_value(&left);
+    page.add(b"\">");
     match character {
         '&' => page.add(b"&amp;"),
         '<' => page.add(b"&lt;"),
         '>' => page.add(b"&gt;"),
         _ => page.add(character.encode_utf8(&mut [0; 4]).as_bytes()),
     }
+    page.add(b"</tspan>");
 }
 
 // Draws the cursor around its place. Past the last column it is at that column's right edge.
@@ -195,19 +247,27 @@ fn draw_cursor(size: Size, spot: Spot, page: &mut Page) {
         Spot::At(row, column) => (row, column, WIDTH),
         Spot::Margin(row) => (row, size.columns, 1),
     };
-    add_rectangle(row, column.saturating_mul(WIDTH), width, page);
+    let area = Area {
+        left: column.saturating_mul(WIDTH),
+        top: row.saturating_mul(HEIGHT),
+        width,
+        height: HEIGHT,
+    };
+    add_rectangle(area, page);
     page.add(b"fill=\"none\" stroke=\"");
     page.add(INK);
     page.add(b"\"/>\n");
 }
 
-// Begins a rectangle as high as a row, up to its colours.
-fn add_rectangle(row: u32, left: u32, width: u32, page: &mut Page) {
+// Begins a rectangle, up to its colours.
+fn add_rectangle(area: Area, page: &mut Page) {
     page.add(b"<rect x=\"");
-    page.add_value(&left);
+    page.add_value(&area.left);
     page.add(b"\" y=\"");
-    page.add_value(&row.saturating_mul(HEIGHT));
+    page.add_value(&area.top);
     page.add(b"\" width=\"");
-    page.add_value(&width);
-    page.add(b"\" height=\"17\" ");
+    page.add_value(&area.width);
+    page.add(b"\" height=\"");
+    page.add_value(&area.height);
+    page.add(b"\" ");
 }

@@ -9,6 +9,9 @@ use std::alloc::{AllocError, Global};
 use std::env::Env;
 use std::io;
 
+// How the text of a usage error ends.
+const ADVICE: &str = "\n\nFor more information, try '--help'.\n";
+
 /// What is done with the script.
 #[derive(Clone, Copy, PartialEq, Eq)]
 pub enum Task {
@@ -42,7 +45,19 @@ pub fn asked(rt: &HostRuntime) -> Result<Request, DemoFailure> {
     match asked_in(rt.alloc(), version.as_str(), words.as_slice()) {
         Ok(asked) => Ok(asked),
         Err(error) if error.kind() == ErrorKind::OutOfMemory => Err(DemoFailure::NoMemory),
-        Err(error) => Err(DemoFailure::Words(error)),
+        Err(error) => Err(usage_failure(rt.alloc(), &error)),
+    }
+}
+
+// A usage error, without the advice at the end of its text: the option that it names is a usage error too.
+fn usage_failure(alloc: Global, error: &clap::Error) -> DemoFailure {
+    let Ok(text) = format!(in alloc; "{error}") else {
+        return DemoFailure::NoMemory;
+    };
+    let usage = text.strip_suffix(ADVICE).unwrap_or(text.as_str());
+    match usage.to_string(alloc) {
+        Ok(usage) => DemoFailure::Words(usage),
+        Err(_) => DemoFailure::NoMemory,
     }
 }
 

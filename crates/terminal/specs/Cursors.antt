@@ -1,7 +1,9 @@
 -- The cursor of a terminal: what a program asks of it, what is known of it, and what is sent for that.
-use Rattle.std.specs.Prelude.{◌≡◌, ℕ, ◌⊎◌, ◌||◌, not, Bool, true, false, List, [], take, Option, Some, None}
+use Rattle.std.specs.Prelude.{◌≡◌, ℕ, ◌<◌, ◌||◌, not, Bool, true, false, List, [], length, take, Option, Some, None}
 use Rattle.std.specs.Io.KnownBytes.{Appends}
 use Rattle.curses.specs.Writers.{WriterView, counted}
+use Rattle.curses.specs.declared.faults.SendFault.{SendFault}
+use Rattle.curses.specs.declared.faults.SendFault.TheVariants.{Flush, Write}
 use Rattle.ti_caps.specs.Description.{Description}
 use Rattle.scr_term.specs.Operations.Admission.{sent_at}
 use Rattle.terminal.specs.declared.cursors.TheConstants.{CIVIS, CNORM}
@@ -54,8 +56,20 @@ pub record IsSent (old new : WriterView) (text : List ℕ) : Type 0 where
   pub puts : new.failed_puts ≡ old.failed_puts
   pub finishes : new.failed_finishes ≡ old.failed_finishes
 
--- A writer took a beginning of a text, perhaps all, and a failure was counted.
-pub record IsFailed (old new : WriterView) (text : List ℕ) : Type 0 where
-  pub part : ℕ
-  pub taken : Appends old.taken new.taken (take part text)
-  pub failed : ((new.failed_puts ≡ counted true old.failed_puts) × (new.failed_finishes ≡ old.failed_finishes)) ⊎ ((new.failed_puts ≡ old.failed_puts) × (new.failed_finishes ≡ counted true old.failed_finishes))
+-- How many bytes a fault says that the writer took.
+abbrev pub sent_by : SendFault → ℕ
+sent_by (Write sent kind) = sent
+sent_by (Flush sent kind) = sent
+
+-- The failure of a fault was counted: that of a put, which left some of so many bytes, or that of the finish after all
+-- of them.
+abbrev pub IsCounted : WriterView → WriterView → ℕ → SendFault → Type 0
+IsCounted old new size (Write sent kind) =
+    (sent < size) × (new.failed_puts ≡ counted true old.failed_puts) × (new.failed_finishes ≡ old.failed_finishes)
+IsCounted old new size (Flush sent kind) =
+    (sent ≡ size) × (new.failed_puts ≡ old.failed_puts) × (new.failed_finishes ≡ counted true old.failed_finishes)
+
+-- A writer took as many bytes of a text as the fault says, and that failure was counted.
+pub record IsFailed (old new : WriterView) (text : List ℕ) (fault : SendFault) : Type 0 where
+  pub taken : Appends old.taken new.taken (take (sent_by fault) text)
+  pub failed : IsCounted old new (length text) fault

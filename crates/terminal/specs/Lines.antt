@@ -6,6 +6,7 @@ use Rattle.std.specs.IoError.{error_kind}
 use Rattle.std.specs.declared.io.Error.{Error}
 use Rattle.scr_cells.specs.declared.sizes.Size.{Size}
 use Rattle.terminal.specs.Inputs.{empty_input, failed_input, heard, sudden_after}
+use Rattle.terminal.specs.Sizes.{Finds, SaySize}
 use Rattle.terminal.specs.declared.input.Input.{Input}
 use Rattle.terminal.specs.declared.input.Input.TheVariants.{Bytes, Failed}
 use Rattle.terminal.specs.declared.sizes.Told.{Told}
@@ -57,11 +58,26 @@ pub record IsKeyboardRead (before after : Option (List ℕ)) (piece : List ℕ) 
   pub bytes : ReadConsumes before after answer piece
   pub means : Means answer old new input
 
--- A read of the line: one of the keyboard, or none where the clock cannot be read or there is no room; then a look at
--- the folder. If that or an earlier one told an end, or it told a stop, the program hears of it where nothing came.
-pub record IsLineRead (piece : List ℕ) (old new : LineView) (input : Input) : Type 0 where
+-- No read: the clock cannot be read or there is no room. What is still to come stays.
+pub record IsNoRead (before after : Option (List ℕ)) (old new : LineView) (input : Input) : Type 0 where
+  pub failed : IsFailedRead old new input
+  pub kept : after ≡ before
+
+-- A read of the line: one of the keyboard, from which these bytes are still to come, and then those; or none where the
+-- clock cannot be read or there is no room. Then a look at the folder. If that or an earlier one told an end, or it told
+-- a stop, the program hears of it where nothing came.
+pub record IsLineRead (before after : Option (List ℕ)) (piece : List ℕ) (old new : LineView) (input : Input) : Type 0 where
   pub between : LineView
   pub found : Input
-  pub read : IsFailedRead old between found ⊎ ((before : Option (List ℕ)) × (after : Option (List ℕ)) × IsKeyboardRead before after piece old between found)
+  pub read : IsNoRead before after old between found ⊎ IsKeyboardRead before after piece old between found
   pub looked : IsLook between new
   pub is : input ≡ heard new.is_ending new.is_stopping found
+
+-- A line that was just opened: the size that two variables say, if they say one, and what a first look at the folder
+-- told.
+pub record IsOpened (line : LineView) : Type 0 where
+  pub rows : List ℕ
+  pub columns : List ℕ
+  pub said : Option Size
+  pub size : Finds (SaySize rows columns) said
+  pub looked : IsLook (record { size = said; is_ending = false; is_stopping = false; sudden = 0; has_folder = line.has_folder }) line

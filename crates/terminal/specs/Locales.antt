@@ -1,6 +1,9 @@
 -- Locales, by their names: `LANGUAGE.CODESET` and perhaps `@MODIFIER`. X/Open Base Definitions, 8.2.
-use Rattle.std.specs.Prelude.{ℕ, ◌≡◌, ◌≢◌, ◌<◌, ◌⊎◌, List, [], ◌∷◌, ◌++◌, codes, get_or, length, map}
+use Rattle.std.specs.Prelude.{ℕ, ◌≡◌, ◌≢◌, ◌<◌, ◌⊎◌, List, [], ◌∷◌, ◌++◌, MatchBool, codes, get_or, length, map}
 use Rattle.std.specs.Char.{to_ascii_lowercase}
+use Rattle.scr_cells.specs.Characters.{is_utf8}
+use Rattle.scr_keys.specs.declared.sets.KeySet.TheVariants.{All}
+use Rattle.curses.specs.declared.opening.Opening.{Opening}
 
 -- No byte of a text is this one.
 abbrev pub HasNo : ℕ → List ℕ → Type 0
@@ -26,3 +29,13 @@ pub record SaysUtf8 (locale : List ℕ) : Type 0 where
   pub first_dot : HasNo 46 language
   pub behind : HasCodeset rest codeset
   pub utf8 : IsUtf8Codeset codeset
+
+-- The first of two names that is not empty, if one is.
+abbrev pub first_named : List ℕ → List ℕ → List ℕ
+first_named [] second = second
+first_named first second = first
+
+-- How a screen is opened in the locale of this name: in UTF-8 exactly if the name says so, and with all keys.
+pub record IsOpenedIn (locale : List ℕ) (opening : Opening) : Type 0 where
+  pub charset : MatchBool (is_utf8 opening.charset) (SaysUtf8 locale) (¬ SaysUtf8 locale)
+  pub keys : opening.keys ≡ All

@@ -86,7 +86,7 @@ impl Cursor {
         ensures ok { OnOk result (self.new ≡ record self.old { shown = shown_after self.old.texts self.old.shown (is_wanted self.old) }) }
         ensures sent { OnOk result (IsSent (W.told out.old) (W.told out.new) (due self.old)) }
         ensures err { OnErr result (self.new ≡ record self.old { shown = None }) }
-        ensures failed { OnErr result (IsFailed (W.told out.old) (W.told out.new) (due self.old)) }
+        ensures failed { IfErr result (IsFailed (W.told out.old) (W.told out.new) (due self.old)) }
     {
         let wanted = self.asked || !self.is_started;
         let Some(texts) = &self.texts else {
@@ -124,7 +124,7 @@ fn is_due(shown: Option<bool>, wanted: bool) -> bool
 // Sends a text whole, and flushes.
 fn send<W: Counted>(text: &[u8], out: &mut W) -> Result<(), SendFault>
     ensures ok { OnOk result (IsSent (W.told out.old) (W.told out.new) text.now) }
-    ensures err { OnErr result (IsFailed (W.told out.old) (W.told out.new) text.now) }
+    ensures err { IfErr result (IsFailed (W.told out.old) (W.told out.new) text.now) }
 {
     let mut sent = 0;
     while sent < text.len() {
@@ -144,7 +144,9 @@ fn send<W: Counted>(text: &[u8], out: &mut W) -> Result<(), SendFault>
 }
 
 // A write failed after so many bytes.
-fn cut(sent: usize, kind: ErrorKind) -> SendFault {
+fn cut(sent: usize, kind: ErrorKind) -> SendFault
+    ensures { result ≡ SendFault.Write sent kind }
+{
     SendFault::Write {
         sent: sent as u64,
         kind,

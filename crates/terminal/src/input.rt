@@ -1,8 +1,8 @@
 //! What comes of a read of the keyboard, and how an input that has ended is told from one that is silent.
-ghost use Rattle.std.specs.Prelude.{◌≡◌};
+ghost use Rattle.std.specs.Prelude.{◌≡◌, [], List, ℕ};
 ghost use Rattle.std.specs.Duration.{as_nanos};
 ghost use Rattle.std.specs.IoError.{error_kind};
-ghost use Rattle.terminal.specs.Inputs.{empty_input, failed_input, heard, sudden_after};
+ghost use Rattle.terminal.specs.Inputs.{IsWithin, bytes_of, empty_input, failed_input, heard, sudden_after};
 
 use std::io::ErrorKind;
 use std::time::Duration;
@@ -41,7 +41,8 @@ pub(crate) fn sudden_after(sudden: u32, took: Duration) -> u32
 
 /// What an empty read means, where so many in a row were sudden.
 pub(crate) fn empty_input(sudden: u32) -> Input
-    ensures { result ≡ empty_input sudden }
+    ensures is { result ≡ empty_input sudden }
+    ensures none { (piece : List ℕ) → bytes_of piece result ≡ [] }
 {
     if sudden < ENOUGH {
         Input::Idle
@@ -52,7 +53,8 @@ pub(crate) fn empty_input(sudden: u32) -> Input
 
 /// What a read means that failed so: a signal ends one that waits.
 pub(crate) fn failed_input(kind: ErrorKind) -> Input
-    ensures { result ≡ failed_input kind }
+    ensures is { result ≡ failed_input kind }
+    ensures none { (piece : List ℕ) → bytes_of piece result ≡ [] }
 {
     match kind {
         ErrorKind::Interrupted => Input::Idle,
@@ -62,7 +64,9 @@ pub(crate) fn failed_input(kind: ErrorKind) -> Input
 
 /// What a program hears of a read: where nothing came, that it is asked to end, or else to stop.
 pub(crate) fn heard(is_ending: bool, is_stopping: bool, input: Input) -> Input
-    ensures { result ≡ heard is_ending is_stopping input }
+    ensures is { result ≡ heard is_ending is_stopping input }
+    ensures bytes { (piece : List ℕ) → bytes_of piece result ≡ bytes_of piece input }
+    ensures within { (piece : List ℕ) → IsWithin piece input → IsWithin piece result }
 {
     match input {
         Input::Idle if is_ending => Input::Ended,

@@ -19,6 +19,7 @@ mod programs;
 mod received;
 mod screens;
 mod sizes;
+mod variables;
 
 pub use events::Event;
 pub use faults::TerminalFault;

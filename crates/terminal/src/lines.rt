@@ -1,21 +1,22 @@
 //! The terminal line that a program reads.
-ghost use Rattle.std.specs.Prelude.{◌≡◌, ◌⊎◌, ◌||◌, not, Bool, false, true, IfErr, IfOk, List, Option, ℕ};
+ghost use Rattle.std.specs.Prelude.{◌≡◌, ◌⊎◌, ◌||◌, [], not, Bool, false, true, IfErr, IfOk, List, Option, ℕ};
 ghost use Rattle.std.specs.Duration.{as_nanos};
-ghost use Rattle.terminal.specs.Inputs.{IsWithin, empty_input, sudden_after};
-ghost use Rattle.terminal.specs.Lines.{IsFailedRead, IsKeyboardRead, IsLineRead, IsLook, after_told};
+ghost use Rattle.std.specs.Io.KnownBytes.{Consumes};
+ghost use Rattle.terminal.specs.Inputs.{IsWithin, bytes_of, empty_input, sudden_after};
+ghost use Rattle.terminal.specs.Lines.{IsFailedRead, IsKeyboardRead, IsLineRead, IsLook, IsNoRead, IsOpened, after_told};
+ghost use Rattle.terminal.specs.Sizes.{Finds, SaySize};
 
 use crate::folders::Folder;
 use crate::input::{Input, empty_input, failed_input, heard, sudden_after};
 use crate::outputs::TerminalOutput;
 use crate::sizes::{Told, size_said};
+use crate::variables::{said_by, text_of};
 use scr_cells::{NoMemory, Size};
-use std::env::VarError;
 use std::fs::File;
-use std::io::{IsTerminal, Read};
+use std::io::{self, IsTerminal, Read};
 use std::marker::Model;
 use std::rt::{Clock, Env, Files};
 use std::time::{Duration, Instant};
-use std::{env, io};
 
 /// The line of the terminal that a program runs on, or whatever else its standard input is.
 #[derive(Drop)]
@@ -41,7 +42,7 @@ impl TerminalLine {
     /// Takes the folder that `TERMINAL_FOLDER` names, if it is set, and the terminal's size from there; where there is
     /// none, the size that `LINES` and `COLUMNS` say, if they are numbers. Fails only when memory runs out.
     pub fn open<R: Env + Files + AllocGlobal>(rt: &R) -> Result<TerminalLine, NoMemory>
-        ensures { IfOk result (λ line. line.sudden ≡ 0) }
+        ensures { IfOk result (λ line. IsOpened line) }
     {
         let mut line = TerminalLine {
             folder: folder_of(rt)?,
@@ -92,19 +93,34 @@ impl TerminalLine {
     /// if it was asked before, else if no byte came; and if the input has ended. How that is told from silence: three
     /// empty reads in a row return within 20 milliseconds, while a line in raw mode lets each wait for a tenth of a
     /// second. So a program whose input is a file gets Idle twice first. Stop if nothing came and the program is asked to
-    /// stop. Failed if the piece is empty, the read fails
-    /// or the clock cannot be read.
+    /// stop. Failed if the piece is empty, the read fails or the clock cannot be read.
     /// POSIX, read(); General Terminal Interface, 'Non-Canonical Mode Input Processing', case C.
     pub fn read<R: io::Input + Files + Clock>(&mut self, rt: &R, piece: &mut [u8]) -> Input
         ensures within { IsWithin piece.new result }
         ensures ending { self.old.is_ending ≡ true → (self.new ≡ self.old) × (piece.new ≡ piece.old) × (result ≡ Input.Ended) }
-        ensures reads { self.old.is_ending ≡ false → IsLineRead piece.new self.old self.new result }
+        ensures reads { self.old.is_ending ≡ false → (before : Option (List ℕ)) × (after : Option (List ℕ)) × IsLineRead before after piece.new self.old self.new result }
+    {
+        self.read_from(rt, &mut rt.reader(), piece)
+    }
+
+    /// Like `read`, from any reader in the place of the standard input. The bytes that it gives are the next ones of the
+    /// reader, and no others are gone from there.
+    pub fn read_from<R: Files + Clock, T: Read>(
+        &mut self,
+        rt: &R,
+        reader: &mut T,
+        piece: &mut [u8],
+    ) -> Input
+        ensures within { IsWithin piece.new result }
+        ensures gives { Consumes (T.remaining reader.old) (T.remaining reader.new) (bytes_of piece.new result) }
+        ensures ending { self.old.is_ending ≡ true → (self.new ≡ self.old) × (piece.new ≡ piece.old) × (reader.new ≡ reader.old) × (result ≡ Input.Ended) }
+        ensures reads { self.old.is_ending ≡ false → IsLineRead (T.remaining reader.old) (T.remaining reader.new) piece.new self.old self.new result }
     {
         // A program that was suspended and is asked to end may not be the one that the terminal's keys are for.
         if self.is_ending {
             return Input::Ended;
         }
-        let found = self.read_keyboard(rt, piece);
+        let found = self.read_keyboard(rt, reader, piece);
         self.look(rt);
         heard(self.is_ending, self.is_stopping, found)
     }
@@ -151,9 +167,15 @@ impl TerminalLine {
     }
 
     // Reads the keyboard once.
-    fn read_keyboard<R: io::Input + Clock>(&mut self, rt: &R, piece: &mut [u8]) -> Input
+    fn read_keyboard<R: Clock, T: Read>(
+        &mut self,
+        rt: &R,
+        reader: &mut T,
+        piece: &mut [u8],
+    ) -> Input
         ensures within { IsWithin piece.new result }
-        ensures reads { IsFailedRead self.old self.new result ⊎ ((before : Option (List ℕ)) × (after : Option (List ℕ)) × IsKeyboardRead before after piece.new self.old self.new result) }
+        ensures gives { Consumes (T.remaining reader.old) (T.remaining reader.new) (bytes_of piece.new result) }
+        ensures reads { IsNoRead (T.remaining reader.old) (T.remaining reader.new) self.old self.new result ⊎ IsKeyboardRead (T.remaining reader.old) (T.remaining reader.new) piece.new self.old self.new result }
     {
         if piece.is_empty() {
             return Input::Failed;
@@ -161,11 +183,11 @@ impl TerminalLine {
         let Ok(start) = Instant::now(rt) else {
             return Input::Failed;
         };
-        self.read_from(rt, start, &mut rt.reader(), piece)
+        self.read_once(rt, start, reader, piece)
     }
 
-    // Reads once from a reader; the read began then.
-    fn read_from<R: Clock, T: Read>(
+    // Reads once; the read began then.
+    fn read_once<R: Clock, T: Read>(
         &mut self,
         rt: &R,
         start: Instant,
@@ -173,6 +195,7 @@ impl TerminalLine {
         piece: &mut [u8],
     ) -> Input
         ensures within { IsWithin piece.new result }
+        ensures gives { Consumes (T.remaining reader.old) (T.remaining reader.new) (bytes_of piece.new result) }
         ensures reads { IsKeyboardRead (T.remaining reader.old) (T.remaining reader.new) piece.new self.old self.new result }
     {
         match reader.read(piece) {
@@ -187,6 +210,7 @@ impl TerminalLine {
 
     // What an empty read means that took this long, if the clock says how long.
     fn empty(&mut self, took: io::Result<Duration>) -> Input
+        ensures none { (piece : List ℕ) → bytes_of piece result ≡ [] }
         ensures known { IfOk took (λ t. (self.new ≡ record self.old { sudden = sudden_after self.old.sudden (as_nanos t) }) × (result ≡ empty_input self.new.sudden)) }
         ensures unknown { IfErr took (λ _. IsFailedRead self.old self.new result) }
     {
@@ -214,20 +238,10 @@ fn folder_of<R: Env + AllocGlobal>(rt: &R) -> Result<Option<Folder>, NoMemory> {
 }
 
 // The size that the environment says.
-fn size_of<R: Env + AllocGlobal>(rt: &R) -> Result<Option<Size>, NoMemory> {
-    let rows = text_of(rt, "LINES")?;
-    let columns = text_of(rt, "COLUMNS")?;
-    match (rows, columns) {
-        (Some(rows), Some(columns)) => Ok(size_said(rows.as_str(), columns.as_str())),
-        _ => Ok(None),
-    }
-}
-
-// What a variable says, if it is set and says a text.
-fn text_of<R: Env + AllocGlobal>(rt: &R, name: &str) -> Result<Option<String>, NoMemory> {
-    match env::var(rt, name) {
-        Ok(text) => Ok(Some(text)),
-        Err(VarError::OutOfMemory) => Err(NoMemory),
-        Err(_) => Ok(None),
-    }
+fn size_of<R: Env + AllocGlobal>(rt: &R) -> Result<Option<Size>, NoMemory>
+    ensures { IfOk result (λ size. (rows : List ℕ) × (columns : List ℕ) × Finds (SaySize rows columns) size) }
+{
+    let rows = said_by(rt, "LINES")?;
+    let columns = said_by(rt, "COLUMNS")?;
+    Ok(size_said(rows.as_str(), columns.as_str()))
 }

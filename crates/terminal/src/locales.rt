@@ -1,35 +1,45 @@
 //! What the locale says of the terminal.
-ghost use Rattle.std.specs.Prelude.{MatchBool};
+ghost use Rattle.std.specs.Prelude.{◌≡◌, IfOk, List, MatchBool, ℕ};
 ghost use Rattle.scr_cells.specs.Characters.{is_utf8};
-ghost use Rattle.terminal.specs.Locales.{HasCodeset, IsUtf8Codeset, SaysUtf8};
+ghost use Rattle.terminal.specs.Locales.{HasCodeset, IsOpenedIn, IsUtf8Codeset, SaysUtf8, first_named};
 
+use crate::variables::said_by;
 use curses::{Charset, KeySet, Opening};
 use scr_cells::NoMemory;
-use std::env;
-use std::env::VarError;
 use std::rt::Env;
 
-// What names the locale of characters, the first that does so first (X/Open Base Definitions, 8.2).
-const NAMES: [&str; 3] = ["LC_ALL", "LC_CTYPE", "LANG"];
-
-/// How a screen is opened where a program says nothing of it: in UTF-8 where the locale says so, with all keys. Fails
-/// only when memory runs out.
-pub(crate) fn opening_of_locale<R: Env + AllocGlobal>(rt: &R) -> Result<Opening, NoMemory> {
-    for name in NAMES {
-        match env::var(rt, name) {
-            Ok(locale) if locale.is_empty() => {}
-            Ok(locale) => return Ok(opening_in(charset_of(locale.as_str()))),
-            Err(VarError::NotPresent) => {}
-            Err(VarError::OutOfMemory) => return Err(NoMemory),
-            Err(VarError::NotUnicode) => break,
-        }
-    }
-    Ok(opening_in(Charset::Ascii))
+/// How a screen is opened where a program says nothing of it: in UTF-8 where the locale says so, with all keys. The
+/// locale of characters is that of the first of `LC_ALL`, `LC_CTYPE` and `LANG` that is set and not empty (X/Open Base
+/// Definitions, 8.2). Fails only when memory runs out.
+pub(crate) fn opening_of_locale<R: Env + AllocGlobal>(rt: &R) -> Result<Opening, NoMemory>
+    ensures { IfOk result (λ opening. (all : List ℕ) × (characters : List ℕ) × (language : List ℕ) × IsOpenedIn (first_named all (first_named characters language)) opening) }
+{
+    let all = said_by(rt, "LC_ALL")?;
+    let characters = said_by(rt, "LC_CTYPE")?;
+    let language = said_by(rt, "LANG")?;
+    Ok(opening_said(all.as_str(), characters.as_str(), language.as_str()))
 }
 
-fn opening_in(charset: Charset) -> Opening {
+// How a screen is opened where the three variables say these texts.
+fn opening_said(all: &str, characters: &str, language: &str) -> Opening
+    ensures { IsOpenedIn (first_named all.now (first_named characters.now language.now)) result }
+{
+    opening_in(named(all, named(characters, language)))
+}
+
+// The first of two texts that names anything.
+fn named<'a>(first: &'a str, second: &'a str) -> &'a str
+    ensures { result.now ≡ first_named first.now second.now }
+{
+    if first.is_empty() { second } else { first }
+}
+
+// How a screen is opened in a locale of this name.
+fn opening_in(locale: &str) -> Opening
+    ensures { IsOpenedIn locale.now result }
+{
     Opening {
-        charset,
+        charset: charset_of(locale),
         keys: KeySet::All,
     }
 }

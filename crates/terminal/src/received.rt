@@ -1,5 +1,6 @@
 //! What was read of the keyboard and waits to be used.
-ghost use Rattle.std.specs.Prelude.{◌≡◌, ◌≢◌, ◌∷◌, [], None, true, false, IfSome, List, ℕ};
+ghost use Rattle.std.specs.Prelude.{◌≡◌, ◌≢◌, ◌∷◌, [], None, Option, true, false, IfSome, List, ℕ};
+ghost use Rattle.std.specs.Io.KnownBytes.{Consumes};
 ghost use Rattle.terminal.specs.Inputs.{bytes_of};
 ghost use Rattle.terminal.specs.Lines.{IsLineRead};
 
@@ -7,7 +8,9 @@ use crate::input::Input;
 use crate::lines::TerminalLine;
 use scr_cells::NoMemory;
 use std::alloc::{AllocError, Global};
+use std::io::Read;
 use std::marker::Model;
+use std::rt::{Clock, Files};
 
 // How many bytes are read at a time, at most.
 const PIECE: usize = 4096;
@@ -68,9 +71,23 @@ impl Received {
     /// Reads the keyboard once, where nothing waits. What was read waits then.
     pub(crate) fn read(&mut self, rt: &HostRuntime, line: &mut TerminalLine) -> Input
         ensures ending { line.old.is_ending ≡ true → (line.new ≡ line.old) × (self.new ≡ []) × (result ≡ Input.Ended) }
-        ensures reads { line.old.is_ending ≡ false → (piece : List ℕ) × IsLineRead piece line.old line.new result × (self.new ≡ bytes_of piece result) }
+        ensures reads { line.old.is_ending ≡ false → (before : Option (List ℕ)) × (after : Option (List ℕ)) × (piece : List ℕ) × IsLineRead before after piece line.old line.new result × (self.new ≡ bytes_of piece result) }
     {
-        let input = line.read(rt, self.piece.as_mut_slice());
+        self.read_from(rt, line, &mut rt.reader())
+    }
+
+    // The same from any reader: the bytes that wait then are the next ones of it, and no others are gone from there.
+    fn read_from<R: Files + Clock, T: Read>(
+        &mut self,
+        rt: &R,
+        line: &mut TerminalLine,
+        reader: &mut T,
+    ) -> Input
+        ensures waits { Consumes (T.remaining reader.old) (T.remaining reader.new) self.new }
+        ensures ending { line.old.is_ending ≡ true → (line.new ≡ line.old) × (self.new ≡ []) × (reader.new ≡ reader.old) × (result ≡ Input.Ended) }
+        ensures reads { line.old.is_ending ≡ false → (piece : List ℕ) × IsLineRead (T.remaining reader.old) (T.remaining reader.new) piece line.old line.new result × (self.new ≡ bytes_of piece result) }
+    {
+        let input = line.read_from(rt, reader, self.piece.as_mut_slice());
         self.used = 0;
         self.count = match input {
             Input::Bytes(count) => count,
