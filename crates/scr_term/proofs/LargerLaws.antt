@@ -19,7 +19,7 @@ use Rattle.scr_term.specs.Operations.Admission.{IsAdmittedAs, IsEquipped, IsSuit
 use Rattle.scr_term.specs.Operations.Capabilities.{each_capability, slot_of}
 use Rattle.scr_term.specs.Operations.Larger.{MovesNothing, MovesRefuseNothing, is_moving}
 use Rattle.scr_term.specs.Operations.Profiles.{ProfileView, is_there}
-use Rattle.scr_term.specs.Operations.Texts.{has, is_sendable, motion, text, text_of_one}
+use Rattle.scr_term.specs.Operations.Texts.{first_piece, has, is_sendable, is_within, motion, text, text_of_one}
 
 -- ---- refusals
 
@@ -83,14 +83,14 @@ refused_same laws entry size =
 
 -- ---- what the profile has
 
-if_none : (b : Bool) → (if b then None else None) ≡ (None : Option Tree)
-if_none true = refl
-if_none false = refl
+if_same : {A : Type 0} → (b : Bool) (x : A) → (if b then x else x) ≡ x
+if_same true x = refl
+if_same false x = refl
 
 spare_none : MovesAreLeftOut → (entry : Description) (c : Capability) → adapted.is_moving (slot_of c).0 ≡ true → spare_program (without_moves entry) c ≡ None
 spare_none laws entry c moving =
     ap (λ t. if is_spoiled (without_moves entry) c then None else option_and_then (used_program c) (option_and_then (λ text. some_text (stripped text)) t)) (laws.absent entry (slot_of c).0 moving)
-    ∙ if_none (is_spoiled (without_moves entry) c)
+    ∙ if_same (is_spoiled (without_moves entry) c) None
 
 and_false : (b : Bool) → (b && false) ≡ false
 and_false true = refl
@@ -101,12 +101,13 @@ not_sent profile one many n no_one no_many =
     ap (λ b. is_sendable profile (if n == 1 && b then text one else text_of_one many n)) no_one
     ∙ ap (λ b. is_sendable profile (if b then text one else text_of_one many n)) (and_false (n == 1)) ∙ no_many
 
-not_had : (b sendable : Bool) → sendable ≡ false → (b && sendable) ≡ false
-not_had b sendable none = ap (λ s. b && s) none ∙ and_false b
+not_had : (profile : ProfileView) (op : Op) → is_sendable profile (first_piece profile op) ≡ false → has profile op ≡ false
+unfolding has
+not_had profile op none = ap (λ s. is_within profile op && s) none ∙ and_false (is_within profile op)
 
 moves_nothing : MovesAreLeftOut → (charset : Charset) (entry : Description) (rows columns : ℕ) → MovesNothing (admitted charset (without_moves entry) rows columns)
 unfolding admitted
-moves_nothing laws charset entry rows columns op moving = by op moving
+moves_nothing laws charset entry rows columns = λ op moving. by op moving
   where
     profile : ProfileView
     profile = admitted charset (without_moves entry) rows columns
@@ -115,12 +116,12 @@ moves_nothing laws charset entry rows columns op moving = by op moving
     never e = (cc)
 
     by : (op : Op) → is_moving op ≡ true → has (admitted charset (without_moves entry) rows columns) op ≡ false
-    by (InsertLines n) moves = not_had _ _ (not_sent profile capability.Il1 capability.Il n (ap is_some (spare_none laws entry capability.Il1 refl)) (ap is_some (spare_none laws entry capability.Il refl)))
-    by (DeleteLines n) moves = not_had _ _ (not_sent profile capability.Dl1 capability.Dl n (ap is_some (spare_none laws entry capability.Dl1 refl)) (ap is_some (spare_none laws entry capability.Dl refl)))
-    by (InsertChars n) moves = not_had _ _ (ap is_some (spare_none laws entry capability.Ich refl))
-    by (DeleteChars n) moves = not_had _ _ (not_sent profile capability.Dch1 capability.Dch n (ap is_some (spare_none laws entry capability.Dch1 refl)) (ap is_some (spare_none laws entry capability.Dch refl)))
-    by (ScrollUp n) moves = not_had _ _ (not_sent profile capability.Ind capability.Indn n (ap is_some (spare_none laws entry capability.Ind refl)) (ap is_some (spare_none laws entry capability.Indn refl)))
-    by (ScrollDown n) moves = not_had _ _ (not_sent profile capability.Ri capability.Rin n (ap is_some (spare_none laws entry capability.Ri refl)) (ap is_some (spare_none laws entry capability.Rin refl)))
+    by (InsertLines n) moves = not_had profile (InsertLines n) (not_sent profile capability.Il1 capability.Il n (ap is_some (spare_none laws entry capability.Il1 refl)) (ap is_some (spare_none laws entry capability.Il refl)))
+    by (DeleteLines n) moves = not_had profile (DeleteLines n) (not_sent profile capability.Dl1 capability.Dl n (ap is_some (spare_none laws entry capability.Dl1 refl)) (ap is_some (spare_none laws entry capability.Dl refl)))
+    by (InsertChars n) moves = not_had profile (InsertChars n) (ap is_some (spare_none laws entry capability.Ich refl))
+    by (DeleteChars n) moves = not_had profile (DeleteChars n) (not_sent profile capability.Dch1 capability.Dch n (ap is_some (spare_none laws entry capability.Dch1 refl)) (ap is_some (spare_none laws entry capability.Dch refl)))
+    by (ScrollUp n) moves = not_had profile (ScrollUp n) (not_sent profile capability.Ind capability.Indn n (ap is_some (spare_none laws entry capability.Ind refl)) (ap is_some (spare_none laws entry capability.Indn refl)))
+    by (ScrollDown n) moves = not_had profile (ScrollDown n) (not_sent profile capability.Ri capability.Rin n (ap is_some (spare_none laws entry capability.Ri refl)) (ap is_some (spare_none laws entry capability.Rin refl)))
     by op moves = absurd (never moves)
 
 admitted_moves : MovesAreLeftOut → (charset : Charset) (entry : Description) (size : Option (ℕ × ℕ)) (profile : ProfileView) → admitted_on charset (without_moves entry) size profile → MovesNothing profile
