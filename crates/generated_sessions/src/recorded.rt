@@ -234,7 +234,8 @@ impl Recorded {
         session_as(
             self.alloc,
             &self.entry,
-            (size, self.opening),
+            size,
+            self.opening,
             &self.calls,
             device,
         )
