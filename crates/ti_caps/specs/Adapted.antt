@@ -1,7 +1,8 @@
 -- Entries with which more can be shown: with colours in place of the attributes that exclude them, and without the last
 -- column where a character there would scroll (terminfo(5), 'Color Handling', 'Basic Capabilities').
-use Rattle.std.specs.Prelude.{ℕ, ◌-◌, ◌==◌, ◌&&◌, Bool, false, not, nat_eq, nat_le, bit_and, List, [], ◌∷◌, codes, map, filter, Option, Some, None, is_some, unwrap_or, slice_set, if◌then◌else◌}
+use Rattle.std.specs.Prelude.{ℕ, ◌-◌, ◌==◌, ◌&&◌, Bool, false, not, nat_eq, nat_le, bit_and, List, [], ◌∷◌, codes, map, filter, Option, Some, None, unwrap_or, slice_set, if◌then◌else◌}
 use Rattle.std.specs.List.{starts_with}
+use Rattle.ti_param.specs.Stripped.{is_only_padding}
 use Rattle.ti_caps.specs.Description.{Description, flag_at, number_at, text_at}
 use Rattle.ti_caps.specs.Names.{first_name}
 use Rattle.ti_caps.specs.Settings.{all_set}
@@ -18,11 +19,16 @@ abbrev pub is_number_from : ℕ → Option ℕ → Bool
 is_number_from least None = false
 is_number_from least (Some n) = nat_le least n
 
--- The entry has eight colours and 64 pairs, and the texts to set them and to make all default again.
+-- There is a text, and something of it is left without its padding.
+abbrev pub is_sent : Option (List ℕ) → Bool
+is_sent None = false
+is_sent (Some text) = not (is_only_padding text)
+
+-- The entry has eight colours and 64 pairs, and sends something to set them and to make all default again.
 abbrev pub can_colour : Description → Bool
 can_colour d =
     is_number_from 8 (number_at d COLORS.0) && (is_number_from 64 (number_at d PAIRS.0)
-    && (is_some (text_at d SETAF.0) && (is_some (text_at d SETAB.0) && (is_some (text_at d OP.0) && is_some (text_at d SGR0.0)))))
+    && (is_sent (text_at d SETAF.0) && (is_sent (text_at d SETAB.0) && (is_sent (text_at d OP.0) && is_sent (text_at d SGR0.0)))))
 
 -- The attributes that cannot be shown beside colours, as the sum of their weights; none if `ncv` is absent.
 abbrev pub excluded : Description → ℕ

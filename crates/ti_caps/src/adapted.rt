@@ -1,8 +1,8 @@
 //! Entries with which more can be shown than with those of the terminal's database: colours first, and without the last
 //! column.
 
-ghost use Rattle.std.specs.Prelude.{◌≡◌, ◌<◌, if◌then◌else◌, is_some, slice_set, None, []};
-ghost use Rattle.ti_caps.specs.Adapted.{attribute_texts, can_colour, colours_first, excluded, excluded_texts, is_combining, is_excluded, is_number_from, one_less, texts_without, with_colours, without_last_column, wraps_at_once};
+ghost use Rattle.std.specs.Prelude.{◌≡◌, ◌<◌, if◌then◌else◌, slice_set, None, []};
+ghost use Rattle.ti_caps.specs.Adapted.{attribute_texts, can_colour, colours_first, excluded, excluded_texts, is_combining, is_excluded, is_number_from, is_sent, one_less, texts_without, with_colours, without_last_column, wraps_at_once};
 ghost use Rattle.ti_caps.specs.Description.{number_at, text_at};
 
 use crate::entry::Entry;
@@ -12,6 +12,7 @@ use crate::slots::{
     SGR0, SMSO, SMUL, XENL,
 };
 use crate::table::Slot;
+use ti_param::is_only_padding;
 
 // The weight of reverse in `ncv`.
 const REVERSE: u16 = 4;
@@ -30,8 +31,9 @@ impl Entry {
     /// Puts colours before the attributes that cannot be shown beside them (`ncv`, terminfo(5), 'Color Handling'):
     /// these attributes' texts become absent, and `ncv` with them, so that colours are shown and these attributes are
     /// not. Where reverse is among them the entry stays as it is, so that highlighting stays; but for PuTTY, which shows
-    /// all attributes beside colours, `ncv` alone becomes absent. Nothing changes where the entry lacks something else
-    /// for colours: eight of them, 64 pairs, `setaf`, `setab`, `op` or `sgr0`.
+    /// all attributes beside colours, `ncv` alone becomes absent. Nothing changes where no colours would come of it,
+    /// since the entry lacks something else for them: eight of them, 64 pairs, `setaf`, `setab`, `op` or `sgr0`. Of these
+    /// texts one of which only padding would be sent counts as absent.
     #[tactic(auto, unfolding(crate::specs::Adapted::colours_first))]
     pub fn colours_first(&mut self)
         ensures { self.new ≡ colours_first self.old }
@@ -77,17 +79,20 @@ impl Entry {
     {
         is_number_from(8, self.number(COLORS))
             && is_number_from(64, self.number(PAIRS))
-            && self.has_text(SETAF)
-            && self.has_text(SETAB)
-            && self.has_text(OP)
-            && self.has_text(SGR0)
+            && self.sends(SETAF)
+            && self.sends(SETAB)
+            && self.sends(OP)
+            && self.sends(SGR0)
     }
 
-    // Whether there is a text.
-    fn has_text(&self, slot: Slot) -> bool
-        ensures { result ≡ is_some (text_at self.now slot.0) }
+    // Whether there is a text, and not of padding alone.
+    fn sends(&self, slot: Slot) -> bool
+        ensures { result ≡ is_sent (text_at self.now slot.0) }
     {
-        self.text(slot).is_some()
+        match self.text(slot) {
+            Some(text) => !is_only_padding(text),
+            None => false,
+        }
     }
 
     // Whether the terminal shows all attributes beside colours.

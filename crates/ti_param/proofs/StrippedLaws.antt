@@ -1,5 +1,5 @@
 -- What is computed is the text without its padding.
-use Rattle.std.proofs.Common.{◌≡◌, ℕ, zero, suc, ◌+◌, List, [], ◌∷◌, drop, refl, sym, subst, arith}
+use Rattle.std.proofs.Common.{◌≡◌, ◌∙◌, ℕ, zero, suc, ◌+◌, List, [], ◌∷◌, ap, drop, refl, sym, subst, arith}
 use Rattle.ti_param.specs.Padding.{Stripped, ended, kept}
 use Rattle.ti_param.specs.Stripped.{kept_unless, stripped, stripped_past}
 use Rattle.ti_param.specs.Code.Padding.{padding_length}
@@ -26,3 +26,18 @@ stripped_is text result e = subst (Stripped text) e (past text 0)
 pub is_stripped : (text result : List ℕ) → Stripped text result → stripped text ≡ result
 unfolding stripped
 is_stripped text result s = stripped_once text (stripped text) result (past text 0) s
+
+past_dropped : (n : ℕ) (text : List ℕ) → stripped_past n text ≡ stripped_past 0 (drop n text)
+past_dropped zero text = refl
+past_dropped (suc n) [] = refl
+past_dropped (suc n) (byte ∷ text) = past_dropped n text
+
+-- where a padding is measured, what follows it is left
+pub passes : (n : ℕ) (text : List ℕ) → padding_length text ≡ n → (n ≡ 0 → ⊥) → stripped_past 0 text ≡ stripped_past 0 (drop n text)
+passes zero text e some = absurd (some refl)
+passes (suc n) [] e some = refl
+passes (suc n) (byte ∷ text) e some = ap (λ k. kept_unless k byte (λ m. stripped_past m text)) e ∙ past_dropped n text
+
+pub unfolded : (text : List ℕ) → stripped text ≡ stripped_past 0 text
+unfolding stripped
+unfolded text = refl

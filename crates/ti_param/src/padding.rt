@@ -2,6 +2,7 @@
 
 ghost use Rattle.std.specs.Prelude.{◌≡◌, ◌+◌, ◌≤◌, length, IfOk, slice_index};
 ghost use Rattle.ti_param.specs.Padding.{Stripped};
+ghost use Rattle.ti_param.specs.Stripped.{is_only_padding};
 ghost use Rattle.ti_param.specs.Code.Padding.{digits_at, point_at, marks_at, padding_length};
 
 use out_of_memory::NoMemory;
@@ -37,6 +38,22 @@ fn one_pass(alloc: Global, bytes: &[u8]) -> Result<Vec<u8>, AllocError>
         }
     }
     Ok(text)
+}
+
+/// Whether nothing of a text is left without its padding: such a text sends nothing. By
+/// `padding_is_removed` it is what `strip_padding` makes empty.
+pub fn is_only_padding(text: &[u8]) -> bool
+    ensures { result ≡ is_only_padding text.now }
+{
+    let mut index = 0;
+    while index < text.len() {
+        let passed = padding_length(&text[index..]);
+        if passed == 0 {
+            return false;
+        }
+        index += passed;
+    }
+    true
 }
 
 // The length of the padding at the beginning of a text, or 0.
