@@ -8,7 +8,8 @@ use Rattle.ti_binary.specs.declared.faults.BinFault.{BinFault}
 use Rattle.ti_binary.specs.declared.widths.Width.{Width}
 use Rattle.ti_binary.specs.declared.widths.Width.TheVariants.{Legacy, Wide}
 use Rattle.ti_database.specs.declared.faults.DatabaseFault.{DatabaseFault}
-use Rattle.ti_database.specs.declared.faults.DatabaseFault.TheVariants.{NotFound, Faulty}
+use Rattle.ti_database.specs.declared.faults.DatabaseFault.TheVariants.{NotFound, Faulty, Unreadable}
+use Rattle.ti_database.specs.declared.obstacles.Obstacle.{Obstacle}
 
 -- The bytes begin with the magic number of files with 32-bit numbers, octal 01036, the lower byte first.
 abbrev pub is_wide : List ℕ → Bool
@@ -31,32 +32,41 @@ entry_refusal bytes = refusal (width_of bytes) bytes
 abbrev pub beginning : List ℕ → List ℕ
 beginning file = take 32769 file
 
--- These can be the files of a store: those that it is known to have, or any where that is not known.
-abbrev pub CanBe : Option (List ℕ → Option (List ℕ)) → (List ℕ → Option (List ℕ)) → Type 0
+-- These can be what a store has: what it is known to have, or anything where that is not known.
+abbrev pub CanBe : {A : Type 0} → Option (List ℕ → Option A) → (List ℕ → Option A) → Type 0
 CanBe None files = Unit {0}
 CanBe (Some known) files = known ≡ files
 
--- What the files say of a path: the path, and what is read of the file there.
-abbrev pub read_at : (List ℕ → Option (List ℕ)) → List ℕ → Option (List ℕ × List ℕ)
-read_at files path = option_map (λ file. (path, beginning file)) (files path)
+-- The first of these paths at which there is something, and what is made of it.
+abbrev pub first_at : {A B : Type 0} → (A → B) → (List ℕ → Option A) → List (List ℕ) → Option (List ℕ × B)
+first_at make files paths = slice_get (filter_map (λ path. option_map (λ file. (path, make file)) (files path)) paths) 0
 
 -- The first of these paths at which there is a file, and what is read of it.
 abbrev pub first_there : (List ℕ → Option (List ℕ)) → List (List ℕ) → Option (List ℕ × List ℕ)
-first_there files paths = slice_get (filter_map (read_at files) paths) 0
+first_there files paths = first_at beginning files paths
+
+-- The first of these paths at which there is something that cannot be read, and why it cannot.
+abbrev pub first_barred : (List ℕ → Option Obstacle) → List (List ℕ) → Option (List ℕ × Obstacle)
+first_barred bars paths = first_at (λ obstacle. obstacle) bars paths
 
 -- The first file that there is is one of the entry.
 abbrev pub IsFound : (List ℕ → Option (List ℕ)) → List (List ℕ) → Description → Type 0
 IsFound files paths entry =
     (path : List ℕ) × (bytes : List ℕ) × (first_there files paths ≡ Some (path, bytes)) × IsEntry bytes entry
 
--- Why nothing is found among these files, if the search fails: none is there, or the first is faulty.
-abbrev pub fault_of : List (List ℕ) → Option (List ℕ × List ℕ) → Option DatabaseFault
-fault_of paths None = Some (NotFound paths)
-fault_of paths (Some (path, bytes)) = option_map (λ fault. Faulty path fault) (entry_refusal bytes)
+-- Why no file is read at these paths: something cannot be read, or nothing is there.
+abbrev pub absent_fault : List (List ℕ) → Option (List ℕ × Obstacle) → DatabaseFault
+absent_fault paths None = NotFound paths
+absent_fault paths (Some (path, obstacle)) = Unreadable path obstacle
 
--- The same for all paths.
-abbrev pub search_fault : (List ℕ → Option (List ℕ)) → List (List ℕ) → Option DatabaseFault
-search_fault files paths = fault_of paths (first_there files paths)
+-- Why nothing is found, if the search fails: the first file that is read is faulty, or none is.
+abbrev pub fault_of : List (List ℕ) → Option (List ℕ × List ℕ) → Option (List ℕ × Obstacle) → Option DatabaseFault
+fault_of paths None barred = Some (absent_fault paths barred)
+fault_of paths (Some (path, bytes)) barred = option_map (λ fault. Faulty path fault) (entry_refusal bytes)
+
+-- The same of what the files say, and of what cannot be read.
+abbrev pub search_fault : (List ℕ → Option (List ℕ)) → (List ℕ → Option Obstacle) → List (List ℕ) → Option DatabaseFault
+search_fault files bars paths = fault_of paths (first_there files paths) (first_barred bars paths)
 
 -- A fault that says that nothing was found names all these paths.
 abbrev pub NamesAll : List (List ℕ) → DatabaseFault → Type 0

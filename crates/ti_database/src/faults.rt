@@ -1,5 +1,6 @@
 //! Why no entry is found.
 use crate::file_paths::{FilePath, FilePaths};
+use crate::obstacles::Obstacle;
 use std::alloc::{AllocError, AllocFailed};
 use thiserror::Error;
 use ti_binary::BinFault;
@@ -10,9 +11,17 @@ pub enum DatabaseFault {
     /// The name is empty, is `.` or `..`, or has a `/` or a byte outside 33 to 126.
     #[error("bad terminal name")]
     BadName,
-    /// None of these files can be read.
+    /// There is nothing at any of these paths.
     #[error("no entry: looked at {0}")]
     NotFound(FilePaths),
+    /// No file can be read, and this is the first of those that are there.
+    #[error("{path}: {obstacle}")]
+    Unreadable {
+        /// The file.
+        path: FilePath,
+        /// Why it cannot be read.
+        obstacle: Obstacle,
+    },
     /// The first file that can be read is not a compiled entry.
     #[error("{path}: {fault}")]
     Faulty {

@@ -42,16 +42,23 @@ impl Model for FilePaths {
     ghost view = { λ paths. paths.0.items };
 }
 
-/// The paths, with a comma and a blank between each two.
+/// Of the paths as many are shown as text.
+const MOST_SHOWN: usize = 10;
+
+/// The first ten paths, with a comma and a blank between each two, and how many there are more.
 impl Display for FilePaths {
     fn fmt<W: fmt::Write>(&self, f: &mut Formatter<W>) -> fmt::Result {
+        let paths = self.0.as_slice();
         let mut between = "";
-        for path in self.0.as_slice() {
+        for path in paths.get(..MOST_SHOWN).unwrap_or(paths) {
             f.write_str(between)?;
             path.fmt(f)?;
             between = ", ";
         }
-        Ok(())
+        match paths.len().saturating_sub(MOST_SHOWN) {
+            0 => Ok(()),
+            more => write!(f, " and {more} more"),
+        }
     }
 }
 

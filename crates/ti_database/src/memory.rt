@@ -1,8 +1,9 @@
 //! Files in memory, for programs that bring entries of their own and for tests.
-ghost use Rattle.std.specs.Prelude.{◌≡◌, option_map, Some};
+ghost use Rattle.std.specs.Prelude.{◌≡◌, option_map, None, Some};
 ghost use Rattle.ti_database.specs.Search.{file_at};
 
 use crate::file_paths::FilePath;
+use crate::obstacles::Obstacle;
 use crate::stores::{Store, beginning};
 use std::alloc::{AllocError, Global};
 use std::marker::Model;
@@ -23,11 +24,17 @@ impl Model for MemoryFiles {
 impl Store for MemoryFiles {
     ghost has = { λ files. Some (λ path. file_at path files) };
 
+    ghost bars = { λ _. Some (λ path. None) };
+
     fn read(&self, alloc: Global, path: &[u8]) -> Result<Option<Bytes>, AllocError> {
         match found(self.0.as_slice(), path) {
             Some(file) => Ok(Some(Bytes(Vec::from_slice(alloc, beginning(file))?))),
             None => Ok(None),
         }
+    }
+
+    fn obstacle(&self, _path: &[u8]) -> Option<Obstacle> {
+        None
     }
 }
 

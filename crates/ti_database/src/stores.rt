@@ -1,24 +1,32 @@
 //! Where the search reads files: a trait, which the system's files and files in memory have.
 ghost use Rattle.std.specs.Prelude.{◌≡◌, ◌≤◌, ℕ, List, Option, None, length, option_map, IfOk, IfSome};
 ghost use Rattle.ti_database.specs.Search.{beginning};
+ghost use Rattle.ti_database.specs.declared.obstacles.Obstacle.{Obstacle};
 
+use crate::obstacles::Obstacle;
 use program_input::{InputFault, read_up_to};
 use std::alloc::{AllocError, Global};
 use std::fs;
-use std::io::Read;
+use std::io::{ErrorKind, Read};
 use std::rt::Files;
 use ti_caps::Bytes;
 
 /// Files by path.
 pub trait Store {
-    // What is at each path, if that is known.
+    // The file at each path, if that is known.
     ghost has: { Self → Option (List ℕ → Option (List ℕ)) };
+    // What else is at each path, if that is known: something that cannot be read as a file.
+    ghost bars: { Self → Option (List ℕ → Option Obstacle) };
 
     /// The file at a path, at most its first 32,769 bytes: one more than a compiled entry has.
     /// `None` if there is no file that can be read. Fails only when memory runs out.
     fn read(&self, alloc: Global, path: &[u8]) -> Result<Option<Bytes>, AllocError>
         ensures few { IfOk result (λ read. IfSome read (λ bytes. length bytes ≤ 32769)) }
         ensures bytes { IfOk result (λ read. IfSome (has self.now) (λ files. read ≡ option_map beginning (files path.now))) };
+
+    /// Why what is at a path cannot be read. `None` if there is nothing, or a file that can be read.
+    fn obstacle(&self, path: &[u8]) -> Option<Obstacle>
+        ensures { IfSome (bars self.now) (λ bars. result ≡ bars path.now) };
 }
 
 /// The most bytes that are read of a file.
@@ -34,6 +42,8 @@ pub(crate) struct SystemFiles<'a, R> {
 impl<R: Files> Store for SystemFiles<'_, R> {
     ghost has = { λ _. None };
 
+    ghost bars = { λ _. None };
+
     fn read(&self, alloc: Global, path: &[u8]) -> Result<Option<Bytes>, AllocError> {
         let Ok(path) = str::from_utf8(path) else {
             return Ok(None);
@@ -41,6 +51,32 @@ impl<R: Files> Store for SystemFiles<'_, R> {
         match fs::open(self.rt, path) {
             Ok(mut file) => read_beginning(alloc, &mut file),
             Err(_) => Ok(None),
+        }
+    }
+
+    // Where a folder on the way may not be searched nobody can say whether a file is there. That
+    // the permission is missing is then more than that there is no entry.
+    fn obstacle(&self, path: &[u8]) -> Option<Obstacle> {
+        let Ok(path) = str::from_utf8(path) else {
+            return None;
+        };
+        match fs::metadata(self.rt, path) {
+            Ok(metadata) if metadata.is_dir() => Some(Obstacle::Folder),
+            Ok(_) => Some(self.unopened(path)),
+            Err(error) if error.kind() == ErrorKind::PermissionDenied => {
+                Some(Obstacle::NotPermitted)
+            }
+            Err(_) => None,
+        }
+    }
+}
+
+impl<R: Files> SystemFiles<'_, R> {
+    // Why a file that is there is not read.
+    fn unopened(&self, path: &str) -> Obstacle {
+        match fs::open(self.rt, path) {
+            Err(error) if error.kind() == ErrorKind::PermissionDenied => Obstacle::NotPermitted,
+            _ => Obstacle::Unread,
         }
     }
 }

@@ -3,6 +3,7 @@ ghost use Rattle.std.specs.Prelude.{◌≡◌, ℕ, List, ◌⊎◌, ◌↔◌, 
 ghost use Rattle.ti_database.specs.Places.{first_folder_of, is_terminal_name, paths_of};
 ghost use Rattle.ti_database.specs.Search.{IsFound, search_fault};
 ghost use Rattle.ti_database.specs.declared.folders.Variables.{Variables};
+ghost use Rattle.ti_database.specs.declared.obstacles.Obstacle.{Obstacle};
 
 use crate::faults::DatabaseFault;
 use crate::file_paths::FilePath;
@@ -26,12 +27,13 @@ use ti_caps::{Bytes, Entry};
 /// A program that has more rights than its user should not call this: the variables are the user's.
 ///
 /// Refused with `BadName` if the name is empty, is `.` or `..`, or has a `/` or a byte outside 33 to
-/// 126; with `NotFound` and the paths if none of the files can be read; with `Faulty` if the first
-/// is not a compiled entry; or with `NoMemory`.
+/// 126; with `Faulty` if the first file that can be read is not a compiled entry; if none can be
+/// read, with `Unreadable` and the first that is there, or else with `NotFound` and the paths; or
+/// with `NoMemory`.
 pub fn find<R: Files + Env + AllocGlobal>(rt: &R, name: &str) -> Result<Entry, DatabaseFault>
     ensures bad { IsErrOf result DatabaseFault.BadName ↔ (is_terminal_name name.now ≡ false) }
     ensures entry { IfOk result (λ entry. (variables : Variables) × (files : List ℕ → Option (List ℕ)) × IsFound files (paths_of variables name.now) entry) }
-    ensures fault { IfErr result (λ fault. (fault ≡ DatabaseFault.BadName) ⊎ (fault ≡ DatabaseFault.NoMemory) ⊎ ((variables : Variables) × (files : List ℕ → Option (List ℕ)) × (search_fault files (paths_of variables name.now) ≡ Some fault))) }
+    ensures fault { IfErr result (λ fault. (fault ≡ DatabaseFault.BadName) ⊎ (fault ≡ DatabaseFault.NoMemory) ⊎ ((variables : Variables) × (files : List ℕ → Option (List ℕ)) × (bars : List ℕ → Option Obstacle) × (search_fault files bars (paths_of variables name.now) ≡ Some fault))) }
 {
     if !is_terminal_name(name.as_bytes()) {
         return Err(DatabaseFault::BadName);

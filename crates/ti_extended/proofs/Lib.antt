@@ -1,3 +1,4 @@
+pub mod DistinctLaws
 pub mod EntryLaws
 pub mod FrontLaws
 pub mod ListLaws

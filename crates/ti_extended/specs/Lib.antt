@@ -3,6 +3,7 @@ pub use Rattle.ti_binary.specs.Files
 pub mod Whole
 pub mod Refusals
 pub mod Sections
+pub mod Distinct
 pub mod Forms
 pub mod Printed
 pub mod WholeFiles

@@ -1,5 +1,5 @@
 -- The source text of a whole entry (infocmp(1)).
-use Rattle.std.specs.Prelude.{ℕ, suc, Bool, true, false, List, [], ◌∷◌, ◌++◌, ◌+◌, ◌&&◌, length, take, drop, Option, Some, None, is_none, is_some, if◌then◌else◌}
+use Rattle.std.specs.Prelude.{ℕ, suc, Bool, true, false, not, List, [], ◌∷◌, ◌++◌, ◌+◌, ◌/◌, ◌%◌, ◌==◌, ◌&&◌, ◌||◌, nat_lt, length, take, drop, Option, Some, None, is_none, is_some, if◌then◌else◌}
 use Rattle.std.specs.Fmt.{decimal}
 use Rattle.std.specs.List.{flat_map}
 use Rattle.ti_caps.specs.declared.table.Kind.{Kind}
@@ -14,9 +14,24 @@ use Rattle.ti_extended.specs.Whole.{Capabilities, Whole}
 abbrev pub number_value : ℕ → List ℕ
 number_value n = 35 ∷ decimal n
 
+-- The byte is printed by `^`.
+abbrev pub is_caret_byte : ℕ → Bool
+is_caret_byte b = (nat_lt b 32 && not (b == 27)) || b == 127
+
+-- A byte as it is printed behind another: by three octal digits where it would be `^` behind `%`, which other compilers read
+-- as an operator (terminfo(5), "Parameterized Strings").
+abbrev pub printed_behind : ℕ → ℕ → List ℕ
+printed_behind before b =
+    if before == 37 && is_caret_byte b then 92 ∷ (48 + b / 64) ∷ (48 + b / 8 % 8) ∷ (48 + b % 8) ∷ [] else printed_text (b ∷ [])
+
+-- The bytes of a text as they are printed, the first behind this byte.
+abbrev pub printed_after : ℕ → List ℕ → List ℕ
+printed_after before [] = []
+printed_after before (b ∷ bs) = printed_behind before b ++ printed_after b bs
+
 -- The value of a text in its field.
 abbrev pub text_value : List ℕ → List ℕ
-text_value text = 61 ∷ printed_text text
+text_value text = 61 ∷ printed_after 0 text
 
 -- The line of a flag at a position, if it is present and has a name in term.h.
 abbrev pub flag_line : ℕ → Bool → List ℕ

@@ -74,6 +74,34 @@ pub(crate) fn name_of(field: &[u8]) -> &[u8] {
     }
 }
 
+/// The name and the text of a field that gives a capability a text, not decoded yet.
+pub(crate) fn text_of(field: &[u8]) -> Option<(&[u8], &[u8])> {
+    match form_of(field) {
+        Form::Textual(name, text) if takes_text(name) => Some((name, text)),
+        Form::Nothing
+        | Form::Plain(_)
+        | Form::Numeric(_, _)
+        | Form::Textual(_, _)
+        | Form::Cancelled(_)
+        | Form::Refers(_)
+        | Form::Odd(_) => None,
+    }
+}
+
+// Whether the capability of this name can be given a text.
+fn takes_text(name: &[u8]) -> bool {
+    match owner_of(name) {
+        Owner::Table(kind, _) | Owner::Standard(kind, _) => kind == Kind::Text,
+        Owner::Extended => true,
+        Owner::Nobody => false,
+    }
+}
+
+/// Whether a field gives a capability that the table does not have a number that is none.
+pub fn has_bad_number(field: &[u8]) -> bool {
+    matches!(addition_of(field), Addition::Numberless)
+}
+
 fn owner_of(name: &[u8]) -> Owner {
     if let Some((kind, slot)) = find_name(name) {
         return Owner::Table(kind, slot);

@@ -1,10 +1,11 @@
 //! Extended capabilities: those whose names are an entry's own.
-ghost use Rattle.std.specs.Prelude.{◌≡◌, ◌+◌, ◌&&◌, ◌∷◌, [], List, ℕ, not, true, false, nat_le, length, IfErr, IfOk, IfNone, IfSome, OnErr, OnSome, Some};
-ghost use Rattle.std.specs.List.{list_all, list_any};
+ghost use Rattle.std.specs.Prelude.{◌≡◌, ◌+◌, ◌&&◌, ◌∷◌, [], true, false, nat_le, length, IfErr, IfOk, IfNone, IfSome, OnErr, OnSome, Some};
+ghost use Rattle.std.specs.List.{list_all};
 ghost use Rattle.std.specs.Str.{bytes_eq};
 ghost use Rattle.ti_extended.specs.Refusals.{capabilities_refusal};
-ghost use Rattle.ti_extended.specs.Whole.{are_capabilities, are_distinct, begins_field, is_extended_name, is_field_byte, is_small, is_whole_text, no_capabilities};
+ghost use Rattle.ti_extended.specs.Whole.{are_capabilities, begins_field, is_extended_name, is_field_byte, is_small, is_whole_text, no_capabilities};
 
+use crate::distinct::are_distinct;
 use crate::faults::WholeFault;
 use std::alloc::Global;
 use std::marker::Model;
@@ -64,7 +65,7 @@ impl Extended {
         ensures err { OnErr result (are_capabilities (record { names = names.items; numbers = numbers.items; texts = texts.items }) ≡ false) }
         ensures fault { IfErr result (λ f. capabilities_refusal (record { names = names.items; numbers = numbers.items; texts = texts.items }) ≡ Some f) }
     {
-        if let Some(fault) = fault_of(&names, &numbers, &texts) {
+        if let Some(fault) = fault_of(*names.allocator(), &names, &numbers, &texts) {
             return Err(fault);
         }
         Ok(Extended {
@@ -98,7 +99,7 @@ impl Extended {
 }
 
 // Why these are no capabilities.
-fn fault_of(names: &[Bytes], numbers: &[u32], texts: &[Bytes]) -> Option<WholeFault>
+fn fault_of(alloc: Global, names: &[Bytes], numbers: &[u32], texts: &[Bytes]) -> Option<WholeFault>
     ensures none { IfNone result (are_capabilities (record { names = names.now; numbers = numbers.now; texts = texts.now }) ≡ true) }
     ensures some { OnSome result (are_capabilities (record { names = names.now; numbers = numbers.now; texts = texts.now }) ≡ false) }
     ensures fault { IfSome result (λ f. capabilities_refusal (record { names = names.now; numbers = numbers.now; texts = texts.now }) ≡ Some f) }
@@ -106,7 +107,7 @@ fn fault_of(names: &[Bytes], numbers: &[u32], texts: &[Bytes]) -> Option<WholeFa
     if !are_good(names) {
         return Some(WholeFault::BadName);
     }
-    if !are_distinct(names) {
+    if !are_distinct(alloc, names) {
         return Some(WholeFault::RepeatedName);
     }
     if !are_values(names.len(), numbers, texts) {
@@ -200,43 +201,4 @@ fn begins_field(name: &[u8]) -> bool
         [first, ..] => *first != b'.',
         [] => false,
     }
-}
-
-fn are_distinct(names: &[Bytes]) -> bool
-    ensures { result ≡ are_distinct names.now }
-{
-    let mut distinct = true;
-    let mut left = names.len();
-    while left > 0 {
-        left -= 1;
-        distinct &= is_new(&names[left..]);
-    }
-    distinct
-}
-
-// Whether the first of these names is none of the others.
-fn is_new(names: &[Bytes]) -> bool
-    ensures { (name : List ℕ) (more : List (List ℕ)) → names.now ≡ name ∷ more → result ≡ not (list_any (bytes_eq name) more) }
-{
-    match names {
-        [name, more @ ..] => !is_among(more, name),
-        [] => true,
-    }
-}
-
-fn is_among(names: &[Bytes], name: &[u8]) -> bool
-    ensures { result ≡ list_any (bytes_eq name.now) names.now }
-{
-    for other in names {
-        if is_same(name, other) {
-            return true;
-        }
-    }
-    false
-}
-
-fn is_same(name: &[u8], other: &[u8]) -> bool
-    ensures { result ≡ bytes_eq name.now other.now }
-{
-    name == other
 }

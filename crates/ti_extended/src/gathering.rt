@@ -1,7 +1,8 @@
 //! Reading the fields of a source that `tic -x` takes besides those that the table has, entry by
 //! entry.
 
-use crate::additions::{Addition, Owner, addition_of, name_of};
+use crate::additions::{Addition, Owner, addition_of, name_of, text_of};
+use crate::carets::{CaretNote, has_caret};
 use std::alloc::{AllocError, Global};
 use ti_caps::{cut_name, has_no_blank};
 use ti_source::{Cause, Line, Lines, Notes, SourceFault, split_field};
@@ -44,6 +45,8 @@ pub(crate) struct Gathered<'a> {
     references: Vec<Reference<'a>>,
     /// For each note what is doubtful, if anything is with all names known.
     pub(crate) causes: Vec<Option<Cause>>,
+    /// The notes on texts with an unescaped `%^`.
+    pub(crate) carets: Vec<CaretNote<'a>>,
 }
 
 impl<'a> Gathered<'a> {
@@ -60,6 +63,7 @@ impl<'a> Gathered<'a> {
             ends: Vec::new(alloc),
             references: Vec::new(alloc),
             causes: Vec::new(alloc),
+            carets: Vec::new(alloc),
         };
         let mut lines = Lines::new(bytes);
         while let Some((number, line)) = lines.next() {
@@ -124,6 +128,16 @@ impl<'a> Gathered<'a> {
     }
 
     fn add_field(&mut self, line: u32, field: &'a [u8], notes: &Notes) -> Result<(), SourceFault> {
+        self.add_addition(line, field, notes)?;
+        Ok(self.add_caret(line, field)?)
+    }
+
+    fn add_addition(
+        &mut self,
+        line: u32,
+        field: &'a [u8],
+        notes: &Notes,
+    ) -> Result<(), SourceFault> {
         match addition_of(field) {
             Addition::Nothing => Ok(()),
             Addition::Doubtful(name, cause) => Ok(self.put_cause(line, name, notes, Some(cause))?),
@@ -143,6 +157,24 @@ impl<'a> Gathered<'a> {
                 Ok(self.push(field, note)?)
             }
         }
+    }
+
+    // Adds a note on a field, if it gives a text with an unescaped `%^`.
+    fn add_caret(&mut self, line: u32, field: &'a [u8]) -> Result<(), AllocError> {
+        if !has_caret(field) {
+            return Ok(());
+        }
+        if let Some((name, text)) = text_of(field)
+            && has_caret(text)
+        {
+            let earlier = self.causes.len();
+            self.carets.push(CaretNote {
+                line,
+                name,
+                earlier,
+            })?;
+        }
+        Ok(())
     }
 
     fn push(&mut self, text: &'a [u8], note: u32) -> Result<(), AllocError> {

@@ -4,8 +4,11 @@
 
 mod additions;
 mod capabilities;
+mod carets;
 mod decoder;
+mod distinct;
 mod encoder;
+mod escapes;
 mod faults;
 mod gathering;
 mod laws;
@@ -19,7 +22,9 @@ mod whole_entry;
 mod words;
 mod writing;
 
+pub use additions::has_bad_number;
 pub use capabilities::{Extended, is_extended_name};
+pub use carets::CaretNote;
 pub use decoder::decode_whole;
 pub use encoder::encode_whole;
 pub use faults::WholeFault;

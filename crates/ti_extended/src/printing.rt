@@ -7,11 +7,11 @@ ghost use Rattle.ti_source.specs.Printing.Print.{field_line, lines_from};
 ghost use Rattle.ti_extended.specs.Printed.{flag_line, nameless, nameless_from, number_line, number_lines, number_value, own_line, own_lines, text_line, text_lines, text_value, whole_printed};
 
 use crate::capabilities::Extended;
+use crate::escapes::put_escaped;
 use crate::whole_entry::WholeEntry;
 use std::alloc::{AllocError, Global};
 use ti_caps::standard::name_of;
 use ti_caps::{Bytes, Entry, Kind, Slot};
-use ti_source::push_escaped;
 
 /// A whole entry as source text.
 #[derive(Debug, Drop)]
@@ -192,7 +192,7 @@ fn put_text(name: &[u8], text: &[u8], out: &mut Vec<u8>) -> Result<(), AllocErro
     out.push(b'\t')?;
     out.extend_from_slice(name)?;
     out.push(b'=')?;
-    push_escaped(out, text)?;
+    put_escaped(text, out)?;
     out.extend_from_slice(b",\n")
 }
 

@@ -4,6 +4,8 @@
 //! The fields of an entry are its own, and then those of the entries that it uses, in order; the
 //! first of a name counts. A cancellation counts in its own entry alone.
 
+ghost use Rattle.std.specs.Prelude.{◌≡◌, ◌≤◌, ◌+◌, IfSome};
+
 use crate::additions::{Addition, Given, addition_of};
 use crate::gathering::{Ends, Field, Gathered, NONE, narrow};
 use std::alloc::{AllocError, Global};
@@ -120,6 +122,18 @@ fn walked(alloc: Global, gathered: &Gathered<'_>) -> Result<(Resolved, Vec<Doubt
     Ok((Resolved { kept, ranges }, doubts))
 }
 
+// The only use of an entry, if it has just one and no fields: then it has the fields of the entry
+// that is used there. An entry without a use has none, whatever follows it.
+fn only_use(fields: Range, uses: Range) -> Option<usize>
+    ensures { IfSome result (λ only. (fields.end ≤ fields.start) × (uses.start ≡ only) × (uses.end ≡ only + 1)) }
+{
+    if fields.start >= fields.end && uses.end.saturating_sub(uses.start) == 1 {
+        Some(uses.start)
+    } else {
+        None
+    }
+}
+
 impl Walk<'_, '_> {
     // Finds the fields of an entry. Each use and each entry is a task once.
     fn follow(&mut self, entry: u32) -> Result<(), AllocError> {
@@ -180,22 +194,15 @@ impl Walk<'_, '_> {
     // Keeps the fields of an entry whose uses are followed.
     fn leave(&mut self, entry: u32) -> Result<(), AllocError> {
         let (fields, uses) = self.parts(entry);
-        let range = if fields.start >= fields.end && self.used_alike(uses) {
-            self.range_used_at(uses.start)
-        } else {
-            self.keep(fields, uses)?
+        let range = match only_use(fields, uses) {
+            Some(only) => self.range_used_at(only),
+            None => self.keep(fields, uses)?,
         };
         self.mark(entry, Mark::Done);
         if let Some(old) = self.ranges.get_mut(entry as usize) {
             *old = range;
         }
         Ok(())
-    }
-
-    // Whether an entry with these uses and no fields has the fields of the first: it is the only
-    // one.
-    fn used_alike(&self, uses: Range) -> bool {
-        uses.end.saturating_sub(uses.start) <= 1
     }
 
     // The fields of the entry that a use names.

@@ -3,6 +3,7 @@
 
 use crate::additions::{Addition, Given, Owner, addition_of};
 use crate::capabilities::Extended;
+use crate::carets::CaretNote;
 use crate::encoder::encode_whole;
 use crate::faults::WholeFault;
 use crate::gathering::Gathered;
@@ -48,6 +49,12 @@ impl<'a> SecondReading<'a> {
             Some(cause) => *cause,
             None => None,
         }
+    }
+
+    /// The notes on texts with an unescaped `%^`, in the order of their fields: another compiler
+    /// reads them otherwise.
+    pub fn carets(&self) -> &[CaretNote<'a>] {
+        self.gathered.carets.as_slice()
     }
 
     /// The whole file of the entry at an index, which by the first reading resolves to `entry`.

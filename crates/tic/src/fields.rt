@@ -113,19 +113,26 @@ pub(crate) fn first_field(line: &[u8], start: usize) -> Option<Field<'_>> {
     None
 }
 
-/// The first field of a line that has a bad number. The line begins at `start`.
+/// The first field of a line that has a bad number: one that gives it to a capability of the table,
+/// or else, since that error comes first, to another one. The line begins at `start`.
 pub(crate) fn bad_number(line: &[u8], start: usize) -> Option<Field<'_>> {
+    let mut other = None;
     let mut fields = Fields::new(line, start);
     for _ in 0..=line.len() {
-        let field = fields.next()?;
+        let Some(field) = fields.next() else {
+            break;
+        };
         if has_bad_number(field.text) {
             return Some(field);
         }
+        if other.is_none() && ti_extended::has_bad_number(field.text) {
+            other = Some(field);
+        }
     }
-    None
+    other
 }
 
-// Whether a field gives a numeric capability what is no number.
+// Whether a field gives a numeric capability of the table what is no number.
 fn has_bad_number(field: &[u8]) -> bool {
     let name = name_of(field);
     match field.get(name.len()..) {

@@ -91,8 +91,21 @@ fn refused(rt: &HostRuntime, error: &clap::Error) -> u8 {
     if error.kind() == ErrorKind::OutOfMemory {
         return told(rt, &Failure::NoMemory);
     }
-    let _ = eprint!(rt; "{error}");
-    2
+    match format!(in rt.alloc(); "{error}") {
+        Ok(text) => {
+            let _ = eprint!(rt; "{}", without_advice(text.as_str()));
+            2
+        }
+        Err(_) => told(rt, &Failure::NoMemory),
+    }
+}
+
+// The last line of what is said of a bad command line.
+const ADVICE: &str = "\nFor more information, try '--help'.\n";
+
+// A text without that line: a request for help is such a command line too.
+fn without_advice(text: &str) -> &str {
+    text.strip_suffix(ADVICE).unwrap_or(text)
 }
 
 // Prints what `tic FILE` lacks, and the folder in which programs look first.

@@ -2,12 +2,13 @@
 
 use crate::fields::unseparated;
 use crate::located::Located;
+use crate::notes::{Doubt, Warning};
 use crate::places::place_at;
 use crate::report::word_of;
 use std::alloc::{AllocError, Global};
 use ti_caps::first_name;
 use ti_compile::TicFault;
-use ti_source::{Cause, NoteView, SourceFault};
+use ti_source::{Cause, SourceFault};
 
 /// Of a name or a field as many bytes are shown.
 const MOST_SHOWN: usize = 60;
@@ -41,22 +42,22 @@ pub(crate) fn error_message(
     Ok(message)
 }
 
-/// The message for a note on a field of an entry with these names: `FILE:LINE: entry NAME: CAUSE
-/// FIELD`.
-pub(crate) fn note_message(
+/// The message for a warning about a field of an entry with these names: `FILE:LINE: entry NAME:
+/// DOUBT FIELD`.
+pub(crate) fn warning_message(
     alloc: Global,
     file: &str,
     names: Option<&[u8]>,
-    note: NoteView<'_>,
+    warning: Warning<'_>,
 ) -> Result<String, AllocError> {
-    let line = note.line;
+    let line = warning.line;
     let mut message = format!(in alloc; "{file}:{line}: ")?;
     add_entry(names, &mut message)?;
-    message.push_str(word_of(note.cause))?;
+    message.push_str(word_of(warning.doubt))?;
     message.push_str(" ")?;
-    add_shown(note.name, &mut message)?;
-    if note.cause == Cause::Unknown {
-        add_hint(note.name, &mut message)?;
+    add_shown(warning.name, &mut message)?;
+    if warning.doubt == Doubt::Cause(Cause::Unknown) {
+        add_hint(warning.name, &mut message)?;
     }
     Ok(message)
 }

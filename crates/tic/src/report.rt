@@ -1,18 +1,19 @@
 //! The lines that `tic` prints.
 
+use crate::notes::{Doubt, Warning};
 use std::alloc::{AllocError, Global};
 use ti_extended::SecondReading;
-use ti_source::{Cause, NoteView, Notes};
+use ti_source::{Cause, Notes};
 
-/// Adds the line for a note: its line number, its cause and the field's name.
-pub(crate) fn add_note(
+/// Adds the line for a warning: its line number, what is doubtful and the field's name.
+pub(crate) fn add_warning(
     alloc: Global,
-    note: NoteView<'_>,
+    warning: Warning<'_>,
     lines: &mut Vec<u8>,
 ) -> Result<(), AllocError> {
-    let (number, word) = (note.line, word_of(note.cause));
+    let (number, word) = (warning.line, word_of(warning.doubt));
     let head = format!(in alloc; "line {number}: {word} ")?;
-    add_line(head.as_bytes(), note.name, lines)
+    add_line(head.as_bytes(), warning.name, lines)
 }
 
 /// Adds the line for an entry: its first reference name and the size of its file.
@@ -168,11 +169,12 @@ fn add_line(first: &[u8], second: &[u8], lines: &mut Vec<u8>) -> Result<(), Allo
 }
 
 /// The word for what is doubtful in a field.
-pub(crate) fn word_of(cause: Cause) -> &'static str {
-    match cause {
-        Cause::Unknown => "unknown",
-        Cause::WrongKind => "wrong kind",
-        Cause::TooGreat => "too great",
-        Cause::Repeated => "repeated",
+pub(crate) fn word_of(doubt: Doubt) -> &'static str {
+    match doubt {
+        Doubt::Cause(Cause::Unknown) => "unknown",
+        Doubt::Cause(Cause::WrongKind) => "wrong kind",
+        Doubt::Cause(Cause::TooGreat) => "too great",
+        Doubt::Cause(Cause::Repeated) => "repeated",
+        Doubt::Caret => "unescaped %^",
     }
 }

@@ -1,4 +1,5 @@
 use Rattle.std.proofs.Common.{◌≡◌, ◌∙◌, sym}
+use Rattle.ti_database.specs.Search.{beginning}
 use Rattle.ti_database.proofs.SearchLaws.{found_here, none_found}
 use Rattle.ti_database.proofs.searching.first_there.Goals as goal
 
@@ -9,4 +10,4 @@ returns-in-Some g c =
     c.loop-path-test.true c.path-item.is copied (c.as_slice.ensures.value ∙ c.path.view_is ∙ sym copied) c.in-Some.is c.in_ok-bytes.ensures.few c.loop-path.invariant c.in_ok-bytes.ensures.bytes
 
 pub returns : goal.returns
-returns g c = none_found (g.S.Store.has c.args.store.now) c.args.paths.now c.loop-path.path-index c.loop-path-test.false c.loop-path.invariant
+returns g c = none_found beginning (g.S.Store.has c.args.store.now) c.args.paths.now c.loop-path.path-index c.loop-path-test.false c.loop-path.invariant

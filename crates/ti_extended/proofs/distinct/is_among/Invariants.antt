@@ -1,7 +1,7 @@
 use Rattle.std.proofs.Common.{◌≡◌, drop}
 use Rattle.std.specs.List.{list_any}
 use Rattle.std.specs.Str.{bytes_eq}
-use Rattle.ti_extended.proofs.capabilities.is_among.Given as goal
+use Rattle.ti_extended.proofs.distinct.is_among.Given as goal
 
 abbrev pub invariant-loop-other : goal.invariant-loop-other
 invariant-loop-other l = list_any (bytes_eq l.name) (drop l.other-index l.names) ≡ list_any (bytes_eq l.name) l.names

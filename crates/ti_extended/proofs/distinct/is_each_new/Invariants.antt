@@ -1,6 +1,6 @@
 use Rattle.std.proofs.Common.{◌≡◌, ◌≤◌, drop, length}
 use Rattle.ti_extended.specs.Whole.{are_distinct}
-use Rattle.ti_extended.proofs.capabilities.are_distinct.Given as goal
+use Rattle.ti_extended.proofs.distinct.is_each_new.Given as goal
 
 abbrev pub invariant-loop-left : goal.invariant-loop-left
 invariant-loop-left l = record {

@@ -4,7 +4,7 @@ use Rattle.std.specs.Str.{bytes_eq}
 use Rattle.std.proofs.lemmas.List.{drop_more, take_rest}
 use Rattle.ti_extended.specs.Whole.{are_distinct}
 use Rattle.ti_extended.proofs.ListLaws.{and_comm}
-use Rattle.ti_extended.proofs.capabilities.are_distinct.Goals as goal
+use Rattle.ti_extended.proofs.distinct.is_each_new.Goals as goal
 
 pub loop-left-preserved : goal.loop-left-preserved
 loop-left-preserved c =
