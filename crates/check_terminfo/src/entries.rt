@@ -29,9 +29,32 @@ pub fn answer_of_entry(
             Some(entry) => set(entry, word, words, text, got),
             None => words.fail(Trouble::Bad("no entry")),
         },
+        "colours-first" => match entry {
+            Some(entry) => {
+                entry.colours_first();
+                add_word("Ok", got);
+            }
+            None => words.fail(Trouble::Bad("no entry")),
+        },
+        "copy" => copy(entry, words, got),
         _ => return false,
     }
     true
+}
+
+// Puts a copy of the entry in its place.
+fn copy(entry: &mut Option<Entry>, words: &mut Words<'_>, got: &mut Buffer) {
+    let made = match entry {
+        Some(entry) => copy_of(entry),
+        None => return words.fail(Trouble::Bad("no entry")),
+    };
+    if keep(made, entry, got) {
+        add_word("Ok", got);
+    }
+}
+
+fn copy_of(entry: &Entry) -> Result<Entry, CapFault> {
+    Ok(entry.clone()?)
 }
 
 fn make_entry(

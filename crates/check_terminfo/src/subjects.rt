@@ -12,6 +12,8 @@
 //! - `names`, `unnamed`: its names; how many present capabilities have no name
 //! - `flag N`, `number N`, `text N`: what it has at a position
 //! - `set-flag N yes`, `set-number N 80`, `set-text N TEXT`: sets that; without a last word it becomes absent
+//! - `colours-first`: the entry then has colours in place of the attributes that they exclude
+//! - `copy`: a copy of the entry takes its place
 //! - `print`: its source text, and how many capabilities that leaves out
 //! - `source TEXT`: how many entries a source has; it is what the next lines are about
 //! - `chained COUNT USES LAST`: the same of a source of COUNT entries, `e0` and so on, each of which uses the next one

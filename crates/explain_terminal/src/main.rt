@@ -1,13 +1,13 @@
 //! Reads a compiled terminfo entry, and says in one line whether this library can serve the
 //! terminal. `explain_terminal NAME` finds the entry by the terminal's name; without a name it reads
-//! standard input.
+//! standard input, or finds the entry that `TERM` names if that is a terminal.
 //!
 //! The line has the size of the screen, or says that the entry has none (then 24 rows of 80 columns
 //! are tried), the attributes that the terminal shows, whether it shows colours, and how long the
 //! text of an operation can be; or it says why the entry makes no screen. Programs take an entry
 //! with colours first, and without a last column that would scroll: where that makes a difference, a
 //! second line says the same of the entry as they take it. The status is 1 if no screen can be
-//! opened either way. The only options are `--help` and `--version`, which answer on standard
+//! opened either way, or if the lines cannot be written. The only options are `--help` and `--version`, which answer on standard
 //! output; anything else is a usage error (status 2).
 #![tactic(auto)]
 
@@ -17,6 +17,8 @@ use program_input::{InputFault, VERSION, read_input};
 use scr_cells::Size;
 use scr_term::{Profile, ProfileFault};
 use std::alloc::{AllocError, Global};
+use std::env::VarError;
+use std::io::IsTerminal;
 use std::process::ExitCode;
 use std::{env, io};
 use thiserror::Error;
@@ -33,6 +35,8 @@ enum Refusal {
     File(BinFault),
     #[error("{0}")]
     Database(DatabaseFault),
+    #[error("TERM is not set")]
+    NoTerm,
     #[error("out of memory")]
     NoMemory,
 }
@@ -53,6 +57,24 @@ fn report_of(profile: &Profile, size: Option<Size>) -> Report {
         attributes: profile.shows().0,
         colours: profile.colours(),
         longest: profile.longest(),
+    }
+}
+
+// The entry on standard input, or if that is a terminal, the one of the terminal that `TERM` names.
+fn entry_unnamed(rt: &HostRuntime) -> Result<Entry, Refusal> {
+    if rt.stdin().is_terminal() {
+        entry_of_term(rt)
+    } else {
+        entry_read(rt)
+    }
+}
+
+// An empty name counts as none.
+fn entry_of_term(rt: &HostRuntime) -> Result<Entry, Refusal> {
+    match env::var(rt, "TERM") {
+        Ok(name) if !name.is_empty() => entry_named(rt, name.as_str()),
+        Err(VarError::OutOfMemory) => Err(Refusal::NoMemory),
+        _ => Err(Refusal::NoTerm),
     }
 }
 
@@ -152,7 +174,7 @@ fn matches<'a>(alloc: Global, words: &'a [String]) -> Result<ArgMatches<'a>, cla
 
 fn command<'a>(alloc: Global) -> Result<Command<'a>, AllocError> {
     let name = Arg::new(alloc, "name").value_name("NAME").help(
-        "The terminal's name; without it the entry is read on the standard input",
+        "The terminal's name; without it the entry is read on the standard input, or is TERM's",
     );
     Command::new(alloc, "explain_terminal")
         .version(VERSION)
@@ -185,12 +207,8 @@ fn say_entry(rt: &HostRuntime, entry: Entry) -> u8 {
     if is_short(&given) || is_short(&adapted) {
         return refuse(rt, &Refusal::NoMemory);
     }
-    print_made(rt, &given);
-    if adapted != given {
-        let _ = print!(rt; "as programs take it: ");
-        print_made(rt, &adapted);
-    }
-    if adapted.is_ok() { 0 } else { 1 }
+    let status = if adapted.is_ok() { 0 } else { 1 };
+    written(rt, print_both(rt, &given, &adapted), status)
 }
 
 // Whether memory ran out.
@@ -198,32 +216,50 @@ fn is_short(made: &Result<Report, ProfileFault>) -> bool {
     matches!(made, Err(ProfileFault::NoMemory))
 }
 
-fn print_made(rt: &HostRuntime, made: &Result<Report, ProfileFault>) {
+fn print_both(
+    rt: &HostRuntime,
+    given: &Result<Report, ProfileFault>,
+    adapted: &Result<Report, ProfileFault>,
+) -> io::Result<()> {
+    print_made(rt, given)?;
+    if adapted != given {
+        print!(rt; "as programs take it: ")?;
+        print_made(rt, adapted)?;
+    }
+    Ok(())
+}
+
+fn print_made(rt: &HostRuntime, made: &Result<Report, ProfileFault>) -> io::Result<()> {
     match made {
         Ok(report) => print_report(rt, *report),
-        Err(fault) => {
-            let _ = println!(rt; "refused: {fault}");
-        }
+        Err(fault) => println!(rt; "refused: {fault}"),
     }
 }
 
 fn refuse(rt: &HostRuntime, refusal: &Refusal) -> u8 {
-    let _ = println!(rt; "refused: {refusal}");
-    1
+    written(rt, println!(rt; "refused: {refusal}"), 1)
+}
+
+// The status, if what was to be written is written.
+fn written(rt: &HostRuntime, ended: io::Result<()>, status: u8) -> u8 {
+    match ended {
+        Ok(()) => status,
+        Err(_) => {
+            let _ = eprintln!(rt; "write failed");
+            1
+        }
+    }
 }
 
 // Prints a usage error, or the help or the version, and returns the status.
 fn answer(rt: &HostRuntime, error: &clap::Error) -> u8 {
-    match error.print(rt) {
-        Err(_) => 1,
-        Ok(()) if error.use_stderr() => 2,
-        Ok(()) => 0,
-    }
+    let status = if error.use_stderr() { 2 } else { 0 };
+    written(rt, error.print(rt), status)
 }
 
 fn main(rt: HostRuntime) -> ExitCode {
     let status = match words_given(&rt) {
-        Words::Input => say(&rt, entry_read(&rt)),
+        Words::Input => say(&rt, entry_unnamed(&rt)),
         Words::Named(name) => say(&rt, entry_named(&rt, name.as_str())),
         Words::Answered(error) => answer(&rt, &error),
         Words::NotText => 2,
@@ -232,13 +268,13 @@ fn main(rt: HostRuntime) -> ExitCode {
     ExitCode::from(status)
 }
 
-fn print_report(rt: &HostRuntime, said: Report) {
-    let _ = match said.size {
-        Some(size) => print!(rt; "admitted: {} rows of {} columns", size.rows, size.columns),
-        None => print!(rt; "admitted: no size of its own"),
-    };
+fn print_report(rt: &HostRuntime, said: Report) -> io::Result<()> {
+    match said.size {
+        Some(size) => print!(rt; "admitted: {} rows of {} columns", size.rows, size.columns)?,
+        None => print!(rt; "admitted: no size of its own")?,
+    }
     let [standout, underline, reverse, blink, dim, bold, invis] = attribute_words(said.attributes);
-    let _ = print!(rt; ", shows{standout}{underline}{reverse}{blink}{dim}{bold}{invis}");
+    print!(rt; ", shows{standout}{underline}{reverse}{blink}{dim}{bold}{invis}")?;
     let colours = if said.colours { " colours" } else { "" };
-    let _ = println!(rt; "{colours}, texts of at most {} bytes", said.longest);
+    println!(rt; "{colours}, texts of at most {} bytes", said.longest)
 }
