@@ -14,8 +14,8 @@
 use clap::error::ErrorKind;
 use clap::{Arg, ArgMatches, Command};
 use program_input::{InputFault, VERSION, read_input};
-use scr_cells::Size;
-use scr_term::{Profile, ProfileFault};
+use scr_cells::{NoMemory, Size};
+use scr_term::{Profile, ProfileFault, sent_at};
 use std::alloc::{AllocError, Global};
 use std::env::VarError;
 use std::io::IsTerminal;
@@ -23,7 +23,7 @@ use std::process::ExitCode;
 use std::{env, io};
 use thiserror::Error;
 use ti_binary::BinFault;
-use ti_caps::Entry;
+use ti_caps::{Entry, Slot, slots};
 use ti_database::{DatabaseFault, find, read_entry};
 
 // Why a terminal cannot be served.
@@ -197,18 +197,34 @@ fn say(rt: &HostRuntime, entry: Result<Entry, Refusal>) -> u8 {
     }
 }
 
+// The texts that colours take.
+static COLOUR_TEXTS: [Slot; 4] = [slots::SETAF, slots::SETAB, slots::OP, slots::SGR0];
+
 // Says what an entry makes as it is, and, if that is something else, as programs take it.
 fn say_entry(rt: &HostRuntime, entry: Entry) -> u8 {
     let given = explain(rt.alloc(), &entry, 80);
     let mut entry = entry;
     let columns = if entry.without_last_column() { 79 } else { 80 };
-    entry.colours_first();
+    if put_colours_first(rt.alloc(), &mut entry).is_err() {
+        return refuse(rt, &Refusal::NoMemory);
+    }
     let adapted = explain(rt.alloc(), &entry, columns);
     if is_short(&given) || is_short(&adapted) {
         return refuse(rt, &Refusal::NoMemory);
     }
     let status = if adapted.is_ok() { 0 } else { 1 };
     written(rt, print_both(rt, &given, &adapted), status)
+}
+
+// Puts colours before attributes, if something is sent for each text that colours take.
+fn put_colours_first(alloc: Global, entry: &mut Entry) -> Result<(), NoMemory> {
+    for slot in &COLOUR_TEXTS {
+        if sent_at(alloc, entry, *slot)?.is_none() {
+            return Ok(());
+        }
+    }
+    entry.colours_first();
+    Ok(())
 }
 
 // Whether memory ran out.
