@@ -23,7 +23,7 @@ use words::Task;
 
 fn main(rt: HostRuntime) -> ExitCode {
     let status = match words_given(&rt) {
-        Ok(words) => perform(&rt, words.as_slice()),
+        Ok(mut words) => perform(&rt, &mut words),
         Err(failure) => told(&rt, &failure),
     };
     ExitCode::from(status)
@@ -44,10 +44,14 @@ fn words_given(rt: &HostRuntime) -> Result<Vec<String>, EditFailure> {
 }
 
 // Does what the command line asks for, and gives the status.
-fn perform(rt: &HostRuntime, words: &[String]) -> u8 {
-    let (line, words) = words::line_of(words);
-    match words::matches(rt.alloc(), words) {
-        Ok(matches) => perform_task(rt, &matches, line),
+fn perform(rt: &HostRuntime, words: &mut Vec<String>) -> u8 {
+    let line = words::take_line(words);
+    if line.is_some() && words.len() < 2 {
+        let _ = eprintln!(rt; "edit: +LINE wants a file after it");
+        return 2;
+    }
+    match words::matches(rt.alloc(), words.as_slice()) {
+        Ok(matches) => perform_task(rt, &matches, line.unwrap_or(1)),
         Err(error) => answered(rt, &error),
     }
 }

@@ -44,15 +44,11 @@ impl Task<'_> {
 /// The least column at which lines can be wrapped.
 const LEAST_WRAP: usize = 10;
 
-/// The line that a first word `+LINE` asks for, and the other words after the one that stands for the program's name.
-pub(crate) fn line_of(words: &[String]) -> (usize, &[String]) {
-    match words.get(1) {
-        Some(word) => match number_of(word.as_str()) {
-            Some(line) => (line, words.get(1..).unwrap_or(words)),
-            None => (1, words),
-        },
-        None => (1, words),
-    }
+/// Takes a first word `+LINE` away, and gives the line that it asks for.
+pub(crate) fn take_line(words: &mut Vec<String>) -> Option<usize> {
+    let line = number_of(words.get(1)?.as_str())?;
+    let _ = words.remove(1);
+    Some(line)
 }
 
 // The number of a word `+NUMBER`.

@@ -1,6 +1,8 @@
 //! What keys ask of the program around the editor: to save the text.
 
 use crate::editor::{Editor, Mode, Request};
+use crate::files::{seen_at, stamp_at};
+use crate::keeping::path_now;
 use crate::messages::Message;
 use crate::saving::{SaveFault, Saved, save, save_as};
 
@@ -9,53 +11,74 @@ pub(crate) fn answer_request(rt: &HostRuntime, path: &str, editor: &mut Editor, 
     match request {
         Request::Save => save_text(rt, path, editor, false),
         Request::Overwrite => save_text(rt, path, editor, true),
-        Request::SaveAs => save_named(rt, editor),
+        Request::SaveAs => save_named(rt, path, editor),
         Request::Suspend => editor.message = Message::CannotSuspend,
         Request::Nothing | Request::Leave | Request::Repaint => {}
     }
 }
 
-// Saves the text, and says how that ended. Where another program has changed the file, the next key may be to overwrite
-// it.
+// Saves the text, and says how that ended.
 fn save_text(rt: &HostRuntime, path: &str, editor: &mut Editor, overwrites: bool) {
-    let path = match &editor.renamed {
-        Some(name) => name.as_str(),
-        None => path,
-    };
-    match save(rt, path, &editor.text, editor.seen, overwrites) {
-        Ok(saved) => say_saved(rt, editor, saved),
-        Err(fault) => {
-            if fault == SaveFault::Changed {
-                editor.mode = Mode::Overwriting;
-            }
-            editor.message = Message::CannotSave(fault);
-        }
+    let saved = save(
+        rt,
+        path_now(&editor.renamed, path),
+        &editor.text,
+        editor.seen,
+        overwrites,
+        &mut editor.kept,
+    );
+    match saved {
+        Ok(saved) => say_saved(rt, path, editor, saved),
+        Err(fault) => say_not_saved(rt, path, editor, fault),
     }
 }
 
-fn say_saved(rt: &HostRuntime, editor: &mut Editor, saved: Saved) {
+fn say_saved(rt: &HostRuntime, path: &str, editor: &mut Editor, saved: Saved) {
+    let stamp = stamp_at(rt, path_now(&editor.renamed, path));
     editor.forget_kept(rt);
-    editor.mark_saved(saved.seen);
-    editor.message = if saved.is_kept {
+    editor.mark_saved(saved.seen, stamp);
+    editor.message = if saved.before.is_some() {
         Message::SavedBefore
     } else {
         Message::Saved
     };
+    editor.named = saved.before;
+}
+
+// Where another program has changed the file, the next key may be to overwrite it.
+fn say_not_saved(rt: &HostRuntime, path: &str, editor: &mut Editor, fault: SaveFault) {
+    match fault {
+        SaveFault::Changed => editor.mode = Mode::Overwriting,
+        SaveFault::Torn => tell_copy(rt, path, editor),
+        _ => {}
+    }
+    editor.message = Message::CannotSave(fault);
+}
+
+// A write left the file damaged: a copy has the text, and the next one may write over what is left.
+fn tell_copy(rt: &HostRuntime, path: &str, editor: &mut Editor) {
+    if let Ok(seen) = seen_at(rt, path_now(&editor.renamed, path)) {
+        editor.seen = seen;
+    }
+    editor.named = match &editor.kept {
+        Some(kept) => String::from_str(rt.alloc(), kept.name()).ok(),
+        None => None,
+    };
 }
 
 // Saves the text under the name that was typed, which it keeps if that ends well.
-fn save_named(rt: &HostRuntime, editor: &mut Editor) {
+fn save_named(rt: &HostRuntime, path: &str, editor: &mut Editor) {
     match named(rt, editor) {
-        Ok(()) => {}
+        Ok(saved) => say_saved(rt, path, editor, saved),
         Err(fault) => editor.message = Message::CannotSave(fault),
     }
 }
 
-fn named(rt: &HostRuntime, editor: &mut Editor) -> Result<(), SaveFault> {
+fn named(rt: &HostRuntime, editor: &mut Editor) -> Result<Saved, SaveFault> {
     let Ok(name) = str::from_utf8(&editor.answer) else {
         return Err(SaveFault::NotText);
     };
-    let saved = save_as(rt, name, &editor.text)?;
+    let saved = save_as(rt, name, &editor.text, &mut editor.kept)?;
     let (Ok(path), Ok(shown)) = (
         String::from_str(rt.alloc(), name),
         Vec::from_slice(rt.alloc(), name.as_bytes()),
@@ -64,6 +87,5 @@ fn named(rt: &HostRuntime, editor: &mut Editor) -> Result<(), SaveFault> {
     };
     editor.renamed = Some(path);
     editor.name = shown;
-    say_saved(rt, editor, saved);
-    Ok(())
+    Ok(saved)
 }

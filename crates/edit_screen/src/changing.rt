@@ -86,6 +86,7 @@ impl Editor {
                 self.message = Message::NoMemory;
                 break;
             }
+            self.notes.note(last.place, last.change.opposite());
             self.history.take_back();
             if is_up_to(last.place, first) {
                 first = last.place;
@@ -167,10 +168,13 @@ impl Editor {
                 } else {
                     self.text.insert(place, part)?;
                 }
+                self.notes.note(place, change);
                 Ok(place_after(place, part))
             }
             Change::Deleted(_) => {
-                let _ = self.text.delete(place)?;
+                if let Some(part) = self.text.delete(place)? {
+                    self.notes.note(place, Change::Deleted(part));
+                }
                 Ok(place)
             }
         }

@@ -223,6 +223,10 @@ fn draw_state(screen: &mut Screen, editor: &Editor, room: &mut Room) {
     if !editor.message.is_empty() {
         draw_piece(screen, editor.message.beginning().as_bytes(), room);
         draw_piece(screen, editor.message.words().as_bytes(), room);
+        if editor.message.names_file() {
+            draw_named(screen, editor, room);
+            return;
+        }
         draw_piece(screen, b"  ", room);
         room.column = 0;
         draw_bytes(screen, &editor.name, room);
@@ -237,6 +241,14 @@ fn draw_state(screen: &mut Screen, editor: &Editor, room: &mut Room) {
     draw_piece(screen, b" column ", room);
     let before = parts_before(editor.line(), editor.cursor.column);
     draw_number(screen, before.saturating_add(1), room);
+}
+
+// Draws the name of the file that the message names.
+fn draw_named(screen: &mut Screen, editor: &Editor, room: &mut Room) {
+    room.column = 0;
+    if let Some(name) = &editor.named {
+        draw_bytes(screen, name.as_bytes(), room);
+    }
 }
 
 // Draws the end of bytes, as much of it as some columns show.

@@ -1,11 +1,12 @@
 //! What the editor holds, and what each key does to it.
 
 use crate::commands::{Command, command_of, command_of_meta};
+use crate::files::{Seen, Stamp};
 use crate::history::History;
 use crate::keeping::Kept;
-use crate::messages::Message;
+use crate::messages::{Message, Said};
+use crate::notes::Notes;
 use crate::questions::{Typed, typed_at, typed_character_at};
-use crate::saving::Seen;
 use crate::sequences::Sequence;
 use crate::view::column_of;
 use curses::Key;
@@ -71,16 +72,22 @@ pub struct Editor {
     pub(crate) renamed: Option<String>,
     /// What is to be said of the last key.
     pub(crate) message: Message,
+    /// The file that the message names, if it names one.
+    pub(crate) named: Option<String>,
     // How far the sequence of a key is read that the terminal's entry does not have.
     sequence: Sequence,
     // Whether the last key cut a line.
     is_cutting: bool,
     /// The version of the text that the file has.
     pub(crate) saved: u64,
-    /// A copy of the text beside the file, if it was changed for a while.
+    /// The changes that were not saved and are in no journal yet.
+    pub(crate) notes: Notes,
+    /// What is kept of the text, if it was changed.
     pub(crate) kept: Option<Kept>,
     /// What the file had when it was read or saved last.
     pub(crate) seen: Seen,
+    /// The stamp that the file had then.
+    pub(crate) stamp: Option<Stamp>,
 }
 
 impl Editor {
@@ -90,7 +97,8 @@ impl Editor {
         name: Vec<u8>,
         text: Text,
         seen: Seen,
-        message: Message,
+        stamp: Option<Stamp>,
+        said: Said,
     ) -> Editor {
         let saved = text.version();
         Editor {
@@ -107,12 +115,15 @@ impl Editor {
             history: History::new(alloc),
             wrap_column: None,
             renamed: None,
-            message,
+            message: said.message,
+            named: said.named,
             sequence: Sequence::Outside,
             is_cutting: false,
             saved,
+            notes: Notes::new(alloc),
             kept: None,
             seen,
+            stamp,
         }
     }
 
@@ -122,9 +133,11 @@ impl Editor {
     }
 
     /// Says that the file has the text now.
-    pub(crate) fn mark_saved(&mut self, seen: Seen) {
+    pub(crate) fn mark_saved(&mut self, seen: Seen, stamp: Option<Stamp>) {
         self.saved = self.text.version();
         self.seen = seen;
+        self.stamp = stamp;
+        self.notes.begin_anew();
     }
 
     /// Has lines wrapped that become longer than so many columns: a word that is typed past them begins a new line.

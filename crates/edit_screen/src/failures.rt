@@ -1,6 +1,6 @@
 //! Why the editor ends without having done what it was asked for.
 
-use crate::saving::ReadFault;
+use crate::files::ReadFault;
 use curses::{CapFault, NoMemory, OpenFault, UpdateFault, WinFault};
 use std::alloc::{AllocError, AllocFailed};
 use std::fmt::{self, Display, Formatter};

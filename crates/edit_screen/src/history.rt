@@ -14,6 +14,16 @@ pub(crate) enum Change {
     Deleted(Part),
 }
 
+impl Change {
+    /// What undoes it at its place.
+    pub(crate) fn opposite(self) -> Change {
+        match self {
+            Change::Inserted(part) => Change::Deleted(part),
+            Change::Deleted(part) => Change::Inserted(part),
+        }
+    }
+}
+
 /// The step that an edit belongs to. What is undone, or done again, is a whole step.
 #[derive(Clone, Copy)]
 pub(crate) enum Step {

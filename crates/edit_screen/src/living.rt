@@ -4,10 +4,18 @@ use crate::answering::answer_request;
 use crate::drawing::{draw, prepare, text_rows};
 use crate::editor::{Editor, Mode, Request};
 use curses::{Screen, Win, WinFault};
+use std::time::{Duration, Instant};
 use terminal::{Event, Program};
 
-/// After so many tenths of a second without a key a changed text is copied beside its file.
+/// After so many tenths of a second without a key it is looked what is to be kept of a changed text.
 const WAIT: u32 = 20;
+
+/// A text whose changes no journal takes is copied after so many of them.
+const MOST_CHANGES: u32 = 20;
+
+/// And it is copied after so many milliseconds: with the tenth of a second that a read of the keyboard takes, three
+/// seconds.
+const MOST_MILLISECONDS: u64 = 2900;
 
 /// An editor, and what it is run on and for.
 #[derive(Drop)]
@@ -16,6 +24,10 @@ pub(crate) struct Session<'a> {
     /// The file that is edited.
     pub(crate) path: &'a str,
     pub(crate) editor: &'a mut Editor,
+    // Whether a text that was not saved is kept; a script's is not.
+    keeps: bool,
+    // When the first change was made that no journal took, and no copy has.
+    since: Option<Instant>,
     // Whether the screen is a new one.
     is_new: bool,
     // Whether everything is to be painted anew.
@@ -25,12 +37,19 @@ pub(crate) struct Session<'a> {
 }
 
 impl<'a> Session<'a> {
-    /// An editor of a file, on a screen that is new.
-    pub(crate) fn new(rt: &'a HostRuntime, path: &'a str, editor: &'a mut Editor) -> Session<'a> {
+    /// An editor of a file, on a screen that is new. A text that was not saved is kept, or is not.
+    pub(crate) fn new(
+        rt: &'a HostRuntime,
+        path: &'a str,
+        editor: &'a mut Editor,
+        keeps: bool,
+    ) -> Session<'a> {
         Session {
             rt,
             path,
             editor,
+            keeps,
+            since: None,
             is_new: true,
             repaints: false,
             has_ended: false,
@@ -44,16 +63,18 @@ impl<'a> Session<'a> {
         self.is_new = false;
     }
 
-    // Nothing was typed for a while: a sequence of bytes is over, or a changed text is copied.
+    // Nothing was typed for a while: a sequence of bytes is over, or what was typed is brought to the disk.
     fn pass_time(&mut self) {
         if self.editor.is_in_sequence() {
             self.editor.pause();
-        } else if self.editor.is_to_keep() {
-            self.editor.keep(self.rt, self.path);
+        } else if self.keeps {
+            self.editor.look_at_file(self.rt, self.path);
+            self.keep();
+            self.editor.sync_kept();
         }
     }
 
-    // Does what a key or a character asks for. Answers whether the editor goes on.
+    // Does what a key or a character asks for, and keeps what it changed. Answers whether the editor goes on.
     fn answer_request(&mut self, request: Request) -> bool {
         match request {
             Request::Leave => {
@@ -63,7 +84,38 @@ impl<'a> Session<'a> {
             Request::Repaint => self.repaints = true,
             request => answer_request(self.rt, self.path, self.editor, request),
         }
+        if self.keeps {
+            self.keep();
+        }
         true
+    }
+
+    // Keeps what was changed: in the journal at once, or in a copy from time to time.
+    fn keep(&mut self) {
+        if !self.editor.is_to_keep() || self.editor.keep_changes(self.rt, self.path) {
+            self.since = None;
+        } else if self.editor.notes.count() >= MOST_CHANGES || self.is_late() {
+            self.editor.keep_text(self.rt, self.path);
+            self.since = None;
+        }
+    }
+
+    // Whether changes wait for long; their time begins with the first that does. Where there is no clock, they do.
+    fn is_late(&mut self) -> bool {
+        match self.since {
+            Some(since) => self.is_past(since),
+            None => {
+                self.since = Instant::now(self.rt).ok();
+                self.since.is_none()
+            }
+        }
+    }
+
+    fn is_past(&self, since: Instant) -> bool {
+        match since.elapsed(self.rt) {
+            Ok(passed) => passed >= Duration::from_millis(MOST_MILLISECONDS),
+            Err(_) => true,
+        }
     }
 }
 
@@ -99,9 +151,9 @@ impl Program for Session<'_> {
     }
 
     fn wait(&self) -> Option<u32> {
-        if self.editor.is_in_sequence() {
+        if self.editor.is_in_sequence() || self.since.is_some() {
             Some(1)
-        } else if self.editor.is_to_keep() {
+        } else if self.editor.is_changed() {
             Some(WAIT)
         } else {
             None

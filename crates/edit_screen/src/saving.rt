@@ -1,66 +1,24 @@
-//! Files: reading one, and saving a text so that no failure loses what the file had.
+//! Saving a text so that no failure loses what its file had.
 
+use crate::files::{Seen, fill, free_name, is_free, is_read_only, make, name_beside, seen_at};
+use crate::in_place::overwrite;
+use crate::keeping::Kept;
 use edit_text::Text;
-use program_input::{InputFault, read_input};
-use std::fs::{File, OpenOptions};
-use std::hash::{DefaultHasher, Hasher};
-use std::io::{ErrorKind, Write};
-use std::{fs, io};
-
-/// How many names are tried for a file beside another.
-pub(crate) const MOST_NAMES: u32 = 100;
-
-/// Why a file was not opened.
-#[derive(Clone, Copy, Debug, PartialEq, Eq)]
-pub enum ReadFault {
-    /// It is a device, a pipe or a folder.
-    NotFile,
-    /// It cannot be opened.
-    Closed,
-    /// It cannot be read, or is too long.
-    Failed,
-    /// Memory ran out.
-    NoMemory,
-}
-
-impl ReadFault {
-    /// What is said of a file that was not opened.
-    pub fn words(self) -> &'static str {
-        match self {
-            ReadFault::NotFile => "not a regular file",
-            ReadFault::Closed => "cannot be opened",
-            ReadFault::Failed => "cannot be read, or has more than 16 MB",
-            ReadFault::NoMemory => "out of memory",
-        }
-    }
-}
-
-/// What a file had when it was looked at: how many bytes, and their hash; `None` if there was no file.
-#[derive(Clone, Copy, PartialEq, Eq)]
-pub(crate) struct Seen(Option<(usize, u64)>);
-
-impl Seen {
-    /// There was no file.
-    pub(crate) const NOTHING: Seen = Seen(None);
-
-    /// A file with these bytes.
-    pub(crate) fn of(bytes: &[u8]) -> Seen {
-        let mut hasher = DefaultHasher::new();
-        hasher.write(bytes);
-        Seen(Some((bytes.len(), hasher.finish())))
-    }
-}
+use std::fs;
+use std::fs::{File, Metadata};
+use std::io::ErrorKind;
+use std::os::unix::fs::MetadataExt;
 
 /// What was saved.
-#[derive(Clone, Copy)]
+#[derive(Drop)]
 pub(crate) struct Saved {
     /// What the file has now.
     pub(crate) seen: Seen,
-    /// Whether it had something else than the editor knew, which is kept beside it.
-    pub(crate) is_kept: bool,
+    /// Where that is which it had, if it was something else than the editor knew.
+    pub(crate) before: Option<String>,
 }
 
-/// Why a text was not saved. The file has what it had.
+/// Why a text was not saved. But for `Torn`, the file has what it had.
 #[derive(Clone, Copy, Debug, PartialEq, Eq)]
 pub enum SaveFault {
     /// Memory ran out.
@@ -83,6 +41,10 @@ pub enum SaveFault {
     WriteFailed,
     /// The new file cannot be renamed to the old one.
     RenameFailed,
+    /// No copy of the text can be made while the file is written in place.
+    NoCopy,
+    /// A write in place failed, and what the file had could not be written back. A copy has the text.
+    Torn,
 }
 
 impl SaveFault {
@@ -99,32 +61,30 @@ impl SaveFault {
             SaveFault::CannotCreate => "no file can be made beside it",
             SaveFault::WriteFailed => "write failed",
             SaveFault::RenameFailed => "the new file cannot take the name of the old one",
+            SaveFault::NoCopy => "no copy can be made, which a write in place needs",
+            SaveFault::Torn => "write failed, and the file is damaged: the text is in ",
         }
     }
 }
 
-/// The bytes of a file; `None` if there is no such file.
-pub(crate) fn bytes_of(rt: &HostRuntime, path: &str) -> Result<Option<Vec<u8>>, ReadFault> {
-    // A device or a pipe is not even opened, since that may wait.
-    if let Ok(metadata) = fs::metadata(rt, path)
-        && !metadata.is_file()
-    {
-        return Err(ReadFault::NotFile);
-    }
-    let mut file = match File::open(rt, path) {
-        Ok(file) => file,
-        Err(error) if error.kind() == ErrorKind::NotFound => return Ok(None),
-        Err(_) => return Err(ReadFault::Closed),
-    };
-    match read_input(rt.alloc(), &mut file) {
-        Ok(bytes) => Ok(Some(bytes)),
-        Err(InputFault::Failed) => Err(ReadFault::Failed),
-        Err(InputFault::NoMemory) => Err(ReadFault::NoMemory),
-    }
+/// What is saved, and over what.
+#[derive(Drop)]
+pub(crate) struct Saving<'a> {
+    /// The file's name, which may be that of a link.
+    pub(crate) path: &'a str,
+    pub(crate) bytes: &'a [u8],
+    pub(crate) version: u64,
+    /// What the file had when it was looked at last.
+    pub(crate) seen: Seen,
+    /// Whether something else that it has is to be written over.
+    pub(crate) overwrites: bool,
+    /// What is kept of the text until it is saved.
+    pub(crate) kept: &'a mut Option<Kept>,
 }
 
 /// Saves a text: writes a new file, named as the old one with `.new` after it, which then takes the place of the old
-/// one. A name that is a link stays one. The new file has the old one's permissions.
+/// one, with its permissions. A name that is a link stays one. A file that has more names than one, that has another
+/// owner, group or mode than a new file would get, or that no file can be made beside, is written in place.
 ///
 /// Refused with `Changed` if the file has something else than was seen last, unless that is to be overwritten. What the
 /// old file has at the end, where that was not seen, is kept with `.before` after its name.
@@ -134,107 +94,140 @@ pub(crate) fn save(
     text: &Text,
     seen: Seen,
     overwrites: bool,
+    kept: &mut Option<Kept>,
 ) -> Result<Saved, SaveFault> {
     match text.bytes(rt.alloc()) {
-        Ok(bytes) => save_bytes(rt, path, &bytes, seen, overwrites),
+        Ok(bytes) => {
+            let mut saving = Saving {
+                path,
+                bytes: &bytes,
+                version: text.version(),
+                seen,
+                overwrites,
+                kept,
+            };
+            save_bytes(rt, &mut saving)
+        }
         Err(_) => Err(SaveFault::NoMemory),
     }
 }
 
-fn save_bytes(
-    rt: &HostRuntime,
-    path: &str,
-    bytes: &[u8],
-    seen: Seen,
-    overwrites: bool,
-) -> Result<Saved, SaveFault> {
-    if !overwrites && seen_at(rt, path)? != seen {
+fn save_bytes(rt: &HostRuntime, saving: &mut Saving<'_>) -> Result<Saved, SaveFault> {
+    if !saving.overwrites && seen_at(rt, saving.path)? != saving.seen {
         return Err(SaveFault::Changed);
     }
-    let is_kept = save_over(rt, path, bytes, seen)?;
+    let before = save_over(rt, saving)?;
     Ok(Saved {
-        seen: Seen::of(bytes),
-        is_kept,
+        seen: Seen::of(saving.bytes),
+        before,
     })
 }
 
 /// Saves a text under another name, which no file has.
-pub(crate) fn save_as(rt: &HostRuntime, path: &str, text: &Text) -> Result<Saved, SaveFault> {
-    match save(rt, path, text, Seen::NOTHING, false) {
+pub(crate) fn save_as(
+    rt: &HostRuntime,
+    path: &str,
+    text: &Text,
+    kept: &mut Option<Kept>,
+) -> Result<Saved, SaveFault> {
+    match save(rt, path, text, Seen::NOTHING, false, kept) {
         Err(SaveFault::Changed) => Err(SaveFault::Taken),
         saved => saved,
     }
 }
 
-// What a file has now. One that cannot be read has changed.
-fn seen_at(rt: &HostRuntime, path: &str) -> Result<Seen, SaveFault> {
-    match bytes_of(rt, path) {
-        Ok(Some(bytes)) => Ok(Seen::of(&bytes)),
-        Ok(None) => Ok(Seen::NOTHING),
-        Err(ReadFault::NoMemory) => Err(SaveFault::NoMemory),
-        Err(_) => Err(SaveFault::Changed),
-    }
-}
-
-// Saves bytes over a file, and answers whether that had something else than was seen, which is kept.
-fn save_over(rt: &HostRuntime, path: &str, bytes: &[u8], seen: Seen) -> Result<bool, SaveFault> {
-    match fs::canonicalize(rt, path) {
-        Ok(real) => replace(rt, real.as_path().as_str(), bytes, seen),
-        Err(error) if error.kind() == ErrorKind::NotFound => save_new(rt, path, bytes, seen),
+// Saves bytes over a file, and gives where that is which it had, if that was not seen.
+fn save_over(rt: &HostRuntime, saving: &mut Saving<'_>) -> Result<Option<String>, SaveFault> {
+    match fs::canonicalize(rt, saving.path) {
+        Ok(real) => replace(rt, real.as_path().as_str(), saving),
+        Err(error) if error.kind() == ErrorKind::NotFound => save_new(rt, saving),
         Err(error) if error.kind() == ErrorKind::OutOfMemory => Err(SaveFault::NoMemory),
         Err(_) => Err(SaveFault::CannotCreate),
     }
 }
 
-/// The name of the nth file of a kind beside a file.
-pub(crate) fn name_beside(
-    rt: &HostRuntime,
-    path: &str,
-    kind: &str,
-    number: u32,
-) -> Result<String, SaveFault> {
-    let name = if number == 0 {
-        format!(in rt.alloc(); "{path}.{kind}")
-    } else {
-        format!(in rt.alloc(); "{path}.{kind}.{number}")
-    };
-    name.map_err(|_| SaveFault::NoMemory)
-}
-
 // Saves a file that is not there yet.
-fn save_new(rt: &HostRuntime, path: &str, bytes: &[u8], seen: Seen) -> Result<bool, SaveFault> {
-    match fs::symlink_metadata(rt, path) {
-        Ok(_) => Err(SaveFault::BrokenLink),
-        Err(_) => replace(rt, path, bytes, seen),
+fn save_new(rt: &HostRuntime, saving: &mut Saving<'_>) -> Result<Option<String>, SaveFault> {
+    if is_free(rt, saving.path) {
+        replace(rt, saving.path, saving)
+    } else {
+        Err(SaveFault::BrokenLink)
     }
 }
 
-// Writes bytes into a new file, which then takes the place of a file that may exist. Answers whether that had something
-// else than was seen.
-fn replace(rt: &HostRuntime, path: &str, bytes: &[u8], seen: Seen) -> Result<bool, SaveFault> {
+// Saves bytes over a file that may exist: by a new file that takes its place, or in place.
+fn replace(
+    rt: &HostRuntime,
+    path: &str,
+    saving: &mut Saving<'_>,
+) -> Result<Option<String>, SaveFault> {
     if is_read_only(rt, path) {
         return Err(SaveFault::ReadOnly);
     }
     let new = name_beside(rt, path, "new", 0)?;
-    let before = free_name(rt, path)?;
-    create(rt, new.as_str(), path, bytes)?;
-    let put = exchange(rt, path, new.as_str(), before.as_str());
-    if put.is_err() {
-        let _ = fs::remove_file(rt, new.as_str());
+    let before = free_name(rt, path, "before")?;
+    match new_file(rt, path, new.as_str())? {
+        Some(file) => {
+            put_new(rt, path, file, new.as_str(), before.as_str(), saving.bytes)?;
+            Ok(if is_kept(rt, before.as_str(), saving.seen) {
+                Some(before)
+            } else {
+                None
+            })
+        }
+        None => overwrite(rt, path, saving),
     }
-    put?;
-    Ok(is_kept(rt, before.as_str(), seen))
 }
 
-// A name with `.before` that no file beside a file has.
-fn free_name(rt: &HostRuntime, path: &str) -> Result<String, SaveFault> {
-    for number in 0..MOST_NAMES {
-        let name = name_beside(rt, path, "before", number)?;
-        if is_free(rt, name.as_str()) {
-            return Ok(name);
-        }
+// Makes the file that is to take the place of a file, empty. `None` if the old one would lose more by that than its
+// bytes, or if none can be made beside it.
+fn new_file(rt: &HostRuntime, path: &str, new: &str) -> Result<Option<File>, SaveFault> {
+    let Ok(old) = fs::metadata(rt, path) else {
+        return Ok(Some(make(rt, new)?));
+    };
+    if old.nlink() > 1 {
+        return Ok(None);
     }
-    Err(SaveFault::IsThere)
+    match make(rt, new) {
+        Ok(file) if is_alike(&file, &old) => Ok(Some(file)),
+        Ok(_) => {
+            let _ = fs::remove_file(rt, new);
+            Ok(None)
+        }
+        Err(SaveFault::CannotCreate) => Ok(None),
+        Err(fault) => Err(fault),
+    }
+}
+
+// Gives a file the permissions of another, and answers whether it has these, its owner and its group then.
+fn is_alike(file: &File, other: &Metadata) -> bool {
+    if file.set_permissions(other.permissions()).is_err() {
+        return false;
+    }
+    match file.metadata() {
+        Ok(own) => {
+            own.uid() == other.uid() && own.gid() == other.gid() && own.mode() == other.mode()
+        }
+        Err(_) => false,
+    }
+}
+
+// Writes bytes into a new file, which then takes the place of a file that may exist. If that fails, the new one is
+// removed.
+fn put_new(
+    rt: &HostRuntime,
+    path: &str,
+    file: File,
+    new: &str,
+    before: &str,
+    bytes: &[u8],
+) -> Result<(), SaveFault> {
+    fill(rt, file, new, bytes)?;
+    let put = exchange(rt, path, new, before);
+    if put.is_err() {
+        let _ = fs::remove_file(rt, new);
+    }
+    put
 }
 
 // Puts a new file in the place of a file, which gets another name. A file that another program makes in between stays:
@@ -271,11 +264,6 @@ fn bring_back(rt: &HostRuntime, path: &str, before: &str) {
     }
 }
 
-// Whether no file has a name.
-fn is_free(rt: &HostRuntime, path: &str) -> bool {
-    fs::symlink_metadata(rt, path).is_err()
-}
-
 // Whether the old file had something else than was seen. If it had not, it is removed.
 fn is_kept(rt: &HostRuntime, before: &str, seen: Seen) -> bool {
     match seen_at(rt, before) {
@@ -286,45 +274,4 @@ fn is_kept(rt: &HostRuntime, before: &str, seen: Seen) -> bool {
         }
         _ => true,
     }
-}
-
-/// Whether a file is there that may not be written.
-pub(crate) fn is_read_only(rt: &HostRuntime, path: &str) -> bool {
-    match OpenOptions::new().write(true).open(rt, path) {
-        Ok(_) => false,
-        Err(error) => error.kind() != ErrorKind::NotFound,
-    }
-}
-
-/// Makes a file of bytes with the permissions of another, which may not be there.
-pub(crate) fn create(
-    rt: &HostRuntime,
-    path: &str,
-    other: &str,
-    bytes: &[u8],
-) -> Result<(), SaveFault> {
-    let mut file = match OpenOptions::new()
-        .write(true)
-        .create_new(true)
-        .open(rt, path)
-    {
-        Ok(file) => file,
-        Err(error) if error.kind() == ErrorKind::AlreadyExists => return Err(SaveFault::IsThere),
-        Err(_) => return Err(SaveFault::CannotCreate),
-    };
-    if fill(rt, &mut file, other, bytes).is_err() {
-        let _ = fs::remove_file(rt, path);
-        return Err(SaveFault::WriteFailed);
-    }
-    Ok(())
-}
-
-// Gives a file the permissions of another that is there, before it has anything to read, and writes bytes to it and
-// through to its disk.
-fn fill(rt: &HostRuntime, file: &mut File, other: &str, bytes: &[u8]) -> io::Result<()> {
-    if let Ok(metadata) = fs::metadata(rt, other) {
-        file.set_permissions(metadata.permissions())?;
-    }
-    file.write_all(bytes)?;
-    file.sync_all()
 }

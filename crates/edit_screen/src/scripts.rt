@@ -98,7 +98,7 @@ pub fn edit_by_script(
     editor: &mut Editor,
 ) -> Result<(), EditFailure> {
     match read_input(rt.alloc(), &mut rt.reader()) {
-        Ok(bytes) => run_bytes(&bytes, charset, &mut Session::new(rt, path, editor)),
+        Ok(bytes) => run_bytes(&bytes, charset, &mut Session::new(rt, path, editor, false)),
         Err(InputFault::Failed) => Err(EditFailure::Input),
         Err(InputFault::NoMemory) => Err(EditFailure::NoMemory),
     }

@@ -34,7 +34,7 @@ pub fn edit_on_terminal(
     editor: &mut Editor,
 ) -> Result<(), EditFailure> {
     let opened = open(rt, terminal);
-    run(rt, &mut opened?, &mut Session::new(rt, path, editor))
+    run(rt, &mut opened?, &mut Session::new(rt, path, editor, true))
 }
 
 fn open(rt: &HostRuntime, terminal: Terminal) -> Result<TerminalScreen, EditFailure> {
