@@ -22,9 +22,9 @@ typedef struct length_reply {
     size_t count;
 } length_reply;
 
-reply huttavel_held_open(huttavel *handle, const uint8_t *entry, size_t length, uint32_t charset, uint32_t rows,
+reply huttavel_held_open(huttavel *handle, const uint8_t *entry, size_t length, uint32_t opening, uint32_t rows,
                          uint32_t columns);
-reply huttavel_held_open_bundled(huttavel *handle, uint32_t charset, uint32_t rows, uint32_t columns);
+reply huttavel_held_open_bundled(huttavel *handle, uint32_t opening, uint32_t rows, uint32_t columns);
 uint32_t huttavel_held_close(huttavel *handle);
 uint32_t huttavel_held_start(huttavel *handle);
 uint32_t huttavel_held_finish(huttavel *handle);

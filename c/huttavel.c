@@ -7,7 +7,13 @@
 static const uint8_t no_bytes[1] = {0};
 
 /* What a screen is opened with where nothing is asked for. */
-static const huttavel_opening usual = {0, 0, HUTTAVEL_ASCII};
+static const huttavel_opening usual = {0, 0, HUTTAVEL_ASCII, 0};
+
+/* The number of an opening: its charset, and 2 more if the terminal may be larger than the screen. */
+static uint32_t number_of(const huttavel_opening *opening)
+{
+    return opening->charset > HUTTAVEL_UTF8 ? UINT32_MAX : opening->charset + (opening->is_larger ? 2 : 0);
+}
 
 uint32_t huttavel_open(huttavel *handle, const uint8_t *entry, size_t length, uint32_t rows, uint32_t columns,
                        huttavel_capability *which)
@@ -30,8 +36,8 @@ uint32_t huttavel_open_as(huttavel *handle, const uint8_t *entry, size_t length,
         return HUTTAVEL_BAD_LENGTH;
     if (opening == NULL)
         opening = &usual;
-    answer = huttavel_held_open(handle, length == 0 ? no_bytes : entry, length, opening->charset, opening->rows,
-                                opening->columns);
+    answer = huttavel_held_open(handle, length == 0 ? no_bytes : entry, length, number_of(opening),
+                                opening->rows, opening->columns);
     if (answer.fault >= HUTTAVEL_UNSUITABLE && which != NULL) {
         which->kind = answer.first;
         which->position = answer.second;
@@ -50,7 +56,7 @@ uint32_t huttavel_open_bundled_as(huttavel *handle, const huttavel_opening *open
         return HUTTAVEL_CLOSED;
     if (opening == NULL)
         opening = &usual;
-    return huttavel_held_open_bundled(handle, opening->charset, opening->rows, opening->columns).fault;
+    return huttavel_held_open_bundled(handle, number_of(opening), opening->rows, opening->columns).fault;
 }
 
 uint32_t huttavel_close(huttavel *handle)

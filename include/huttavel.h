@@ -82,6 +82,9 @@ typedef struct huttavel_opening {
     uint32_t rows;
     uint32_t columns;
     uint32_t charset; /* one of enum huttavel_charset */
+    /* Not 0 if the terminal may have more rows or columns than the screen. Nothing is inserted, deleted or scrolled then,
+     * since that would bring in what is beyond the screen. */
+    uint32_t is_larger;
 } huttavel_opening;
 
 /* Video attributes: a set is the sum of some of these. */

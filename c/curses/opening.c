@@ -15,7 +15,8 @@ static int columns_left_out(const struct text *entry)
 static uint32_t open_handle(const SCREEN *screen, huttavel *handle, uint32_t rows, uint32_t columns)
 {
     struct text entry = entry_of_updates(&screen->entry);
-    huttavel_opening opening = {rows, columns, screen->is_utf8 ? HUTTAVEL_UTF8 : HUTTAVEL_ASCII};
+    huttavel_opening opening = {rows, columns, screen->is_utf8 ? HUTTAVEL_UTF8 : HUTTAVEL_ASCII,
+                                may_be_larger(screen->output, rows, columns)};
     uint32_t fault = HUTTAVEL_NO_MEMORY;
 
     if (entry.bytes)

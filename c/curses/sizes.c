@@ -54,6 +54,15 @@ static void ask_size(int output, uint32_t *rows, uint32_t *columns)
         *rows = *columns = 0;
 }
 
+/* Whether the terminal that a descriptor writes to may have more rows or columns than a screen of this size, or of the
+   entry's own if that is 0 and 0: the line says so, whatever LINES and COLUMNS say. */
+static bool may_be_larger(int output, uint32_t rows, uint32_t columns)
+{
+    struct winsize size;
+
+    return ioctl(output, TIOCGWINSZ, &size) == 0 && (size.ws_row > rows || size.ws_col > columns);
+}
+
 /* Have no effect: a screen moves the cursor by rows as well as by columns, and needs all of the terminal. */
 void filter(void)
 {

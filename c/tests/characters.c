@@ -52,7 +52,7 @@ static uint32_t add(huttavel *handle, const char *text)
 static huttavel open_screen(uint32_t charset)
 {
     huttavel handle = HUTTAVEL_CLOSED_HANDLE;
-    huttavel_opening opening = {4, 20, 0};
+    huttavel_opening opening = {4, 20, 0, 0};
 
     opening.charset = charset;
     IS(HUTTAVEL_OK, huttavel_open_bundled_as(&handle, &opening));
@@ -62,7 +62,7 @@ static huttavel open_screen(uint32_t charset)
 static void opening(void)
 {
     huttavel handle = HUTTAVEL_CLOSED_HANDLE;
-    huttavel_opening other = {0, 1, 2};
+    huttavel_opening other = {0, 1, 2, 0};
     uint32_t rows = 0, columns = 0;
 
     IS(HUTTAVEL_CLOSED, huttavel_open_bundled_as(NULL, &other));
@@ -331,7 +331,7 @@ static void send(huttavel *handle, terminal *to)
 static void terminals_show_it(uint32_t charset)
 {
     huttavel handle = HUTTAVEL_CLOSED_HANDLE;
-    huttavel_opening opening = {ROWS, COLUMNS, charset};
+    huttavel_opening opening = {ROWS, COLUMNS, charset, 0};
     terminal to;
 
     terminal_begin(&to, '?');

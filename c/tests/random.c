@@ -73,7 +73,7 @@ static uint32_t open_any(huttavel *of)
     size_t count;
     const uint8_t *entry = piece(&count);
 
-    huttavel_opening opening = {1 + any(12), 1 + any(40), any(9) == 0 ? number() : any(2)};
+    huttavel_opening opening = {1 + any(12), 1 + any(40), any(9) == 0 ? number() : any(2), any(3) == 0};
 
     if (any(3) == 0)
         return huttavel_open(of, entry, count, number(), number(), any(2) == 0 ? NULL : &which);

@@ -88,12 +88,12 @@ pub fn add_held(byte: u8, attrs: u8, pair: u32, got: &mut Buffer) {
 
 /// Adds what a cell holds.
 pub fn add_cell(cell: Cell, got: &mut Buffer) {
-    add_held(cell.byte(), cell.attrs().0, cell.pair(), got);
+    add_held(cell.stand_in(), cell.attrs().0, cell.pair(), got);
 }
 
 /// Adds the byte and the attributes of a look, and its foreground and background where one is not the default.
 pub fn add_look(look: Look, got: &mut Buffer) {
-    add_held(look.byte(), look.attrs().0, 0, got);
+    add_held(look.stand_in(), look.attrs().0, 0, got);
     let (foreground, background) = (look.foreground(), look.background());
     if foreground.is_some() || background.is_some() {
         add_colour(foreground, got);
@@ -125,7 +125,7 @@ pub fn add_colour(colour: Option<u8>, got: &mut Buffer) {
 pub fn add_text_of(cells: &[Cell], got: &mut Buffer) {
     got.extend(b" \"");
     for cell in cells {
-        write_byte(cell.byte(), got);
+        write_byte(cell.stand_in(), got);
     }
     got.push(b'"');
 }

@@ -41,7 +41,7 @@ pub fn dump_picture(picture: &Picture, bytes: &mut Buffer) {
 // Adds what cells hold.
 fn dump_cells(cells: &[Cell], bytes: &mut Buffer) {
     for cell in cells {
-        bytes.extend(&[cell.byte(), cell.attrs().0]);
+        bytes.extend(&[cell.stand_in(), cell.attrs().0]);
         bytes.push(u8::try_from(cell.pair()).unwrap_or(u8::MAX));
     }
 }

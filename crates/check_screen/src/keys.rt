@@ -98,7 +98,11 @@ fn open_reader(alloc: Global, entry: &Entry, set: KeySet) -> Result<Keyboard, Op
 
 fn open_screen(alloc: Global, entry: &Entry, keys: KeySet) -> Result<Keyboard, OpenFault> {
     let charset = Charset::Ascii;
-    let opening = Opening { charset, keys };
+    let opening = Opening {
+        charset,
+        keys,
+        is_larger: false,
+    };
     let screen = Screen::open_as(alloc, entry, Size::new(2, 5), opening)?;
     Ok(Keyboard::Screen(screen))
 }

@@ -92,7 +92,7 @@ sent_whole profile ops begun text owed between rest old mid late new n m whole n
 -- a write of the text failed
 pub stopped_in_text : (profile : ProfileView) (ops : List Op) (begun : ℕ) (text owed between rest : List ℕ) (old mid new : WriterView) (n m : ℕ) → begun ≡ length ops → between ≡ [] → rest ≢ []
     → IsCut owed (all_bytes profile (take begun ops)) old.taken mid.taken n between → IsCut [] text mid.taken new.taken m rest → new.failed_puts ≡ counted true old.failed_puts
-    → new.failed_finishes ≡ old.failed_finishes → IsStopped profile ops text owed old new (n + m) rest
+    → new.finishes ≡ old.finishes → IsStopped profile ops text owed old new (n + m) rest
 stopped_in_text profile ops begun text owed between rest old mid new n m whole none something first second puts finishes = record {
   place = inr (record {
     cut = text_behind profile ops begun text owed between rest old mid new n m whole none first second;

@@ -15,7 +15,7 @@ use Rattle.scr_memory.specs.Memories.{Agrees, MayBe, MemoryView, all_followed, i
 use Rattle.scr_plan.specs.Plans.{IsPlan, MayStart}
 use Rattle.curses.specs.Cuts.{IsCut}
 use Rattle.curses.specs.Updates.{BeginsPlan, IsDefined, IsDefinedAnew, IsOfOneText, IsSent}
-use Rattle.curses.specs.Writers.{WriterView}
+use Rattle.curses.specs.Writers.{IsFinishFailed, IsFinished, WriterView, finished, finished_after}
 use Rattle.curses.proofs.CutLaws.{cut_kept}
 
 -- a beginning of a run that is defined
@@ -113,3 +113,12 @@ some_not_none f x is none = never (sym is ∙ none)
   where
     never : Some x ≡ None → ⊥
     never e = (cc)
+
+-- ---- the end of the sending
+
+-- no finish was asked for before the last one
+pub finished_since : (count : ℕ) (old mid new : WriterView) → mid.finishes ≡ old.finishes → IsFinished count mid new → IsFinished count old new
+finished_since count old mid new same is = record { finishes = is.finishes ∙ ap (finished_after count) same; last = is.last }
+
+pub failed_since : (old mid new : WriterView) → mid.finishes ≡ old.finishes → IsFinishFailed mid new → IsFinishFailed old new
+failed_since old mid new same is = record { finishes = is.finishes ∙ ap (finished true) same; last = is.last }

@@ -1,7 +1,8 @@
 -- Opening a screen on a terminal, and when that is refused. X/Open Curses Issue 7, newterm(), keypad().
-use Rattle.std.specs.Prelude.{◌≡◌, ◌≢◌, [], Option, Some, None}
+use Rattle.std.specs.Prelude.{◌≡◌, ◌≢◌, [], Option, Some, None, false, if◌then◌else◌}
 use Rattle.scr_cells.specs.declared.charsets.Charset.TheVariants.{Ascii}
 use Rattle.scr_cells.specs.declared.sizes.Size.{Size}
+use Rattle.ti_caps.specs.Adapted.{without_moves}
 use Rattle.ti_caps.specs.Description.{Description}
 use Rattle.ti_caps.specs.declared.slots.TheConstants.{RMCUP, RMKX, SMCUP, SMKX}
 use Rattle.ti_caps.specs.declared.table.Slot.{Slot}
@@ -20,16 +21,21 @@ use Rattle.curses.specs.declared.faults.OpenFault.TheVariants.{KeyTooLong, NoMem
 use Rattle.curses.specs.ScreenStates.{ScreenState}
 use Rattle.curses.specs.Texts.{texts_or_none}
 
--- How a screen is opened if nothing is asked for: the terminal has ASCII alone, and the keys are those of the capability
--- table.
+-- How a screen is opened if nothing is asked for: the terminal has ASCII alone and the screen's size, and the keys are
+-- those of the capability table.
 abbrev pub default_opening : Opening
-default_opening = record { charset = Ascii; keys = Table }
+default_opening = record { charset = Ascii; keys = Table; is_larger = false }
+
+-- The entry by which the terminal is written: without the texts that insert, delete or scroll, if the terminal may be
+-- larger than the screen.
+abbrev pub served : Opening → Description → Description
+served asked entry = if asked.is_larger then without_moves entry else entry
 
 -- A screen just opened on the terminal of an entry, as is asked for: one blank window over the whole screen, a blank
 -- virtual screen, nothing known of the terminal, nothing owed, the entry's keys with none pressed, and the opening and
 -- closing text, each empty if it is refused.
 pub record IsOpenedAs (asked : Opening) (entry : Description) (size : Option Size) (screen : ScreenState) : Type 0 where
-  pub profile : IsAdmittedAs asked.charset entry size screen.profile
+  pub profile : IsAdmittedAs asked.charset (served asked entry) size screen.profile
   pub desk : screen.desk ≡ first_desk screen.profile.rows screen.profile.columns
   pub virtual : screen.virtual ≡ blank_virtual screen.profile.rows screen.profile.columns
   pub memory : screen.memory ≡ unknown screen.profile.rows screen.profile.columns

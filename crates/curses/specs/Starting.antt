@@ -18,7 +18,7 @@ use Rattle.curses.specs.declared.faults.SendFault.{SendFault}
 use Rattle.curses.specs.declared.faults.SendFault.TheVariants.{Flush, Write}
 use Rattle.curses.specs.ScreenStates.{ScreenState}
 use Rattle.curses.specs.Updates.{IsDefined, IsOfOneText}
-use Rattle.curses.specs.Writers.{WriterView, counted}
+use Rattle.curses.specs.Writers.{IsFinishFailed, IsFinished, WriterView, counted}
 
 -- ---- the operations in front of the closing text
 
@@ -70,18 +70,18 @@ pub record IsStopped (profile : ProfileView) (ops : List Op) (text owed : List �
   pub place : IsCutInOps profile ops owed old new count rest ⊎ IsCutInText profile ops text owed old new count rest
   pub something : rest ≢ []
   pub puts : new.failed_puts ≡ counted true old.failed_puts
-  pub finishes : new.failed_finishes ≡ old.failed_finishes
+  pub finishes : new.finishes ≡ old.finishes
 
 -- What was sent, if the call succeeded.
 abbrev pub AfterSending : ProfileView → List Op → List ℕ → List ℕ → WriterView → WriterView → ℕ → List ℕ → Type 0
 AfterSending profile ops text owed old new count rest =
-    AreSent profile ops text owed old new count rest × (new.failed_finishes ≡ old.failed_finishes)
+    AreSent profile ops text owed old new count rest × IsFinished count old new
 
 -- What was sent, if a write or the flush failed.
 abbrev pub AfterSendFault : ProfileView → List Op → List ℕ → List ℕ → WriterView → WriterView → SendFault → List ℕ → Type 0
 AfterSendFault profile ops text owed old new (Write sent kind) rest = IsStopped profile ops text owed old new sent rest
 AfterSendFault profile ops text owed old new (Flush sent kind) rest =
-    AreSent profile ops text owed old new sent rest × (new.failed_finishes ≡ counted true old.failed_finishes)
+    AreSent profile ops text owed old new sent rest × IsFinishFailed old new
 
 -- ---- of a screen
 

@@ -9,7 +9,7 @@ use Rattle.scr_term.specs.Operations.Texts.{all_bytes, bytes_of}
 use Rattle.scr_memory.specs.Memories.{Agrees, MayBe, MemoryView, all_followed, forgotten, is_known}
 use Rattle.scr_plan.specs.Plans.{IsPlan}
 use Rattle.curses.specs.Cuts.{IsCut}
-use Rattle.curses.specs.Writers.{WriterView, counted}
+use Rattle.curses.specs.Writers.{IsFinishFailed, IsFinished, WriterView, counted}
 use Rattle.scr_virtual.specs.VirtualViews.{VirtualView, settled}
 use Rattle.curses.specs.declared.faults.Sent.{Sent}
 use Rattle.curses.specs.ScreenStates.{ScreenState}
@@ -38,8 +38,8 @@ pub record IsSent (profile : ProfileView) (memory : MemoryView) (owed : List ℕ
   pub defined : (state : TerminalState) → Agrees (abilities profile) memory state → IsDefined profile state begun
 
 -- A successful update: nothing is owed, no write or flush failed, and the operations are a plan, so they lead every
--- state that agrees to one that shows the picture and agrees with what is known then, which is everything. What was
--- remembered was a possible state of the terminal.
+-- state that agrees to one that shows the picture and agrees with what is known then, which is everything. If a byte was
+-- accepted, the writer was finished after it. What was remembered was a possible state of the terminal.
 pub record IsUpdated (profile : ProfileView) (memory : MemoryView) (virtual : VirtualView) (owed : List ℕ) (old new : WriterView) (begun : List Op) (count : ℕ) (rest : List ℕ) : Type 0 where
   pub sent : IsSent profile memory owed old new begun count rest
   pub plan : IsPlan profile memory virtual begun
@@ -47,7 +47,7 @@ pub record IsUpdated (profile : ProfileView) (memory : MemoryView) (virtual : Vi
   pub known : is_known (all_followed profile begun memory) ≡ true
   pub nothing : rest ≡ []
   pub puts : new.failed_puts ≡ old.failed_puts
-  pub finishes : new.failed_finishes ≡ old.failed_finishes
+  pub finished : IsFinished count old new
 
 -- These operations are the beginning of some plan.
 pub record BeginsPlan (profile : ProfileView) (memory : MemoryView) (virtual : VirtualView) (begun : List Op) : Type 0 where
@@ -62,7 +62,7 @@ pub record IsCutShort (profile : ProfileView) (memory : MemoryView) (virtual : V
   pub begins : BeginsPlan profile memory virtual begun
   pub something : rest ≢ []
   pub puts : new.failed_puts ≡ counted true old.failed_puts
-  pub finishes : new.failed_finishes ≡ old.failed_finishes
+  pub finishes : new.finishes ≡ old.finishes
 
 -- An update that sent a whole plan, but whose flush failed.
 pub record IsUnfinished (profile : ProfileView) (memory : MemoryView) (virtual : VirtualView) (owed : List ℕ) (old new : WriterView) (begun : List Op) (count : ℕ) (rest : List ℕ) : Type 0 where
@@ -70,7 +70,7 @@ pub record IsUnfinished (profile : ProfileView) (memory : MemoryView) (virtual :
   pub plan : IsPlan profile memory virtual begun
   pub nothing : rest ≡ []
   pub puts : new.failed_puts ≡ old.failed_puts
-  pub finishes : new.failed_finishes ≡ counted true old.failed_finishes
+  pub finished : IsFinishFailed old new
 
 -- What each error says about what was sent; if memory ran out, nothing was.
 abbrev pub AfterFault : ProfileView → MemoryView → VirtualView → List ℕ → WriterView → WriterView → UpdateFault → List ℕ → Type 0

@@ -1,11 +1,13 @@
 //! Opening a screen on a terminal. The definitions are in `specs/Opening.antt`.
-ghost use Rattle.std.specs.Prelude.{◌≡◌, ◌≤◌, [], IfErr, IfOk, IsErrOf, None, Some, length, vec_capacity};
+ghost use Rattle.std.specs.Prelude.{◌≡◌, ◌≤◌, [], true, IfErr, IfOk, IsErrOf, OnOk, None, Some, length, vec_capacity};
 ghost use Rattle.curses.specs.Code.Openings.{IsReaderOf, first_screen};
-ghost use Rattle.curses.specs.Opening.{IsOpened, IsOpenedAs, IsUnopened, IsUnopenedWith, default_opening};
+ghost use Rattle.curses.specs.Opening.{IsOpened, IsOpenedAs, IsUnopened, IsUnopenedWith, default_opening, served};
 ghost use Rattle.curses.specs.ScreenStates.{HasRoom, HasTextRoom};
 ghost use Rattle.curses.specs.Texts.{texts_or_none};
 ghost use Rattle.ti_caps.specs.declared.slots.TheConstants.{RMCUP, RMKX, SMCUP, SMKX};
-ghost use Rattle.scr_term.specs.Operations.Admission.{IsAdmittedAs, IsSuitable, refusal};
+ghost use Rattle.scr_term.specs.Operations.Admission.{IsAdmittedAs, IsEquipped, IsSuitable, refusal};
+ghost use Rattle.scr_term.specs.Operations.Larger.{MovesNothing};
+ghost use Rattle.ti_caps.specs.Adapted.{without_moves};
 ghost use Rattle.scr_windows.specs.DeskViews.{first_desk};
 ghost use Rattle.scr_virtual.specs.VirtualViews.{blank_virtual};
 ghost use Rattle.scr_memory.specs.Memories.{unknown};
@@ -17,7 +19,7 @@ use scr_cells::{Charset, NoMemory, Size};
 use scr_keys::{KeyFault, KeyReader, KeySet, KeyTable};
 use scr_memory::{Memory, memory_runs};
 use scr_plan::up_to_date_laws;
-use scr_term::{Profile, ProfileFault};
+use scr_term::{Profile, ProfileFault, moves_refuse_nothing};
 use scr_virtual::Virtual;
 use scr_windows::Desk;
 use std::alloc::Global;
@@ -30,17 +32,21 @@ pub struct Opening {
     pub charset: Charset,
     /// Which texts of the entry are keys.
     pub keys: KeySet,
+    /// Whether the terminal may have more rows or columns than the screen. Nothing is inserted, deleted or scrolled
+    /// then, since that would bring in what is beyond the screen.
+    pub is_larger: bool,
 }
 
 impl Opening {
-    /// What `Screen::open` opens a screen with: the terminal has ASCII alone, and the keys are those of the capability
-    /// table.
+    /// What `Screen::open` opens a screen with: the terminal has ASCII alone and the screen's size, and the keys are
+    /// those of the capability table.
     pub fn new() -> Opening
         ensures { result ≡ default_opening }
     {
         Opening {
             charset: Charset::Ascii,
             keys: KeySet::Table,
+            is_larger: false,
         }
     }
 }
@@ -64,12 +70,13 @@ impl Screen {
     ///
     /// Refused: Profile if the entry makes no profile, for the first reason that `Profile::admit` has; KeyTooLong with
     /// the lowest position of a key whose text has more than 64 bytes; NoMemory if memory runs out, which hides none of
-    /// the first two reasons of `Profile::admit`. X/Open Curses Issue 7, newterm(), keypad().
+    /// the first five reasons of `Profile::admit`. X/Open Curses Issue 7, newterm(), keypad().
     pub fn open(alloc: Global, entry: &Entry, size: Option<Size>) -> Result<Screen, OpenFault>
         ensures ok { IfOk result (IsOpened entry.now size) }
         ensures err { IfErr result (IsUnopened entry.now size) }
         ensures suitable { IfOk result (λ _. IsSuitable entry.now) }
         ensures memory { IsErrOf result OpenFault.NoMemory → IsSuitable entry.now }
+        ensures equipped { IsErrOf result OpenFault.NoMemory → IsEquipped entry.now size }
     {
         Screen::open_as(alloc, entry, size, Opening::new())
     }
@@ -90,6 +97,8 @@ impl Screen {
         ensures err { IfErr result (IsUnopenedWith opening.keys entry.now size) }
         ensures suitable { IfOk result (λ _. IsSuitable entry.now) }
         ensures memory { IsErrOf result OpenFault.NoMemory → IsSuitable entry.now }
+        ensures equipped { IsErrOf result OpenFault.NoMemory → IsEquipped entry.now size }
+        ensures still { IfOk result (λ screen. opening.is_larger ≡ true → MovesNothing screen.profile) }
     {
         let profile = admitted(alloc, entry, size, opening)?;
         let keys = keys_of(alloc, entry, size, opening)?;
@@ -104,6 +113,7 @@ impl Screen {
         ensures err { IfErr result (IsUnopened entry.now (Some size)) }
         ensures suitable { IfOk result (λ _. IsSuitable entry.now) }
         ensures memory { IsErrOf result OpenFault.NoMemory → IsSuitable entry.now }
+        ensures equipped { IsErrOf result OpenFault.NoMemory → IsEquipped entry.now (Some size) }
     {
         Screen::open(alloc, entry, Some(size))
     }
@@ -116,6 +126,7 @@ impl Screen {
         ensures err { IfErr result (IsUnopened entry.now None) }
         ensures suitable { IfOk result (λ _. IsSuitable entry.now) }
         ensures memory { IsErrOf result OpenFault.NoMemory → IsSuitable entry.now }
+        ensures equipped { IsErrOf result OpenFault.NoMemory → IsEquipped entry.now None }
     {
         Screen::open(alloc, entry, None)
     }
@@ -261,14 +272,63 @@ fn admitted(
     size: Option<Size>,
     opening: Opening,
 ) -> Result<Profile, OpenFault>
+    ensures ok { IfOk result (IsAdmittedAs opening.charset (served opening entry.now) size) }
+    ensures accepted { OnOk result (refusal entry.now size ≡ None) }
+    ensures err { IfErr result (IsUnopenedWith opening.keys entry.now size) }
+    ensures suitable { IfOk result (λ _. IsSuitable entry.now) }
+    ensures memory { IsErrOf result OpenFault.NoMemory → IsSuitable entry.now }
+    ensures equipped { IsErrOf result OpenFault.NoMemory → IsEquipped entry.now size }
+    ensures still { IfOk result (λ profile. opening.is_larger ≡ true → MovesNothing profile) }
+{
+    let profile = admitted_whole(alloc, entry, size, opening)?;
+    if opening.is_larger {
+        admitted_still(alloc, entry, size, opening)
+    } else {
+        Ok(profile)
+    }
+}
+
+// The profile of the whole entry.
+fn admitted_whole(
+    alloc: Global,
+    entry: &Entry,
+    size: Option<Size>,
+    opening: Opening,
+) -> Result<Profile, OpenFault>
     ensures ok { IfOk result (IsAdmittedAs opening.charset entry.now size) }
     ensures err { IfErr result (IsUnopenedWith opening.keys entry.now size) }
     ensures suitable { IfOk result (λ _. IsSuitable entry.now) }
     ensures memory { IsErrOf result OpenFault.NoMemory → IsSuitable entry.now }
+    ensures equipped { IsErrOf result OpenFault.NoMemory → IsEquipped entry.now size }
 {
     match Profile::admit_as(alloc, entry, size, opening.charset) {
         Ok(profile) => Ok(profile),
         Err(ProfileFault::NoMemory) => Err(OpenFault::NoMemory),
         Err(fault) => Err(OpenFault::Profile(fault)),
+    }
+}
+
+// The profile of an entry that makes one, without the texts that insert, delete or scroll. Fails only when memory runs
+// out.
+fn admitted_still(
+    alloc: Global,
+    entry: &Entry,
+    size: Option<Size>,
+    opening: Opening,
+) -> Result<Profile, OpenFault>
+    requires { refusal entry.now size ≡ None }
+    ensures ok { IfOk result (IsAdmittedAs opening.charset (without_moves entry.now) size) }
+    ensures err { IfErr result (λ fault. fault ≡ OpenFault.NoMemory) }
+    ensures still { IfOk result MovesNothing }
+{
+    moves_refuse_nothing();
+    let Ok(still) = entry.clone() else {
+        return Err(OpenFault::NoMemory);
+    };
+    let mut still = still;
+    still.without_moves();
+    match Profile::admit_as(alloc, &still, size, opening.charset) {
+        Ok(profile) => Ok(profile),
+        Err(_) => Err(OpenFault::NoMemory),
     }
 }

@@ -40,7 +40,7 @@ pub(crate) fn send_all<W: Counted>(
     ensures fault { result.fault ≢ None → waiting.new.items ≢ [] }
     ensures room { vec_capacity waiting.old ≤ vec_capacity waiting.new }
     ensures puts { (W.told out.new).failed_puts ≡ counted (is_some result.fault) (W.told out.old).failed_puts }
-    ensures finishes { (W.told out.new).failed_finishes ≡ (W.told out.old).failed_finishes }
+    ensures finishes { (W.told out.new).finishes ≡ (W.told out.old).finishes }
 {
     let owed = send_waiting(waiting, out);
     if owed.fault.is_some() {
@@ -79,7 +79,7 @@ fn send_operations<W: Counted>(
     ensures fault { result.fault ≢ None → waiting.new.items ≢ [] }
     ensures room { vec_capacity waiting.old ≤ vec_capacity waiting.new }
     ensures puts { (W.told out.new).failed_puts ≡ counted (is_some result.fault) (W.told out.old).failed_puts }
-    ensures finishes { (W.told out.new).failed_finishes ≡ (W.told out.old).failed_finishes }
+    ensures finishes { (W.told out.new).finishes ≡ (W.told out.old).finishes }
 {
     let _longest = profile.longest();
     let mut begun = 0;
@@ -119,7 +119,7 @@ fn send_operation<W: Counted>(
     ensures room { vec_capacity waiting.old ≤ vec_capacity waiting.new }
     ensures few { result.bytes ≤ length (bytes_of profile.now op) }
     ensures puts { (W.told out.new).failed_puts ≡ counted (is_some result.fault) (W.told out.old).failed_puts }
-    ensures finishes { (W.told out.new).failed_finishes ≡ (W.told out.old).failed_finishes }
+    ensures finishes { (W.told out.new).finishes ≡ (W.told out.old).finishes }
 {
     if let Op::Put(byte) = op {
         return send_character(byte, waiting, out);
@@ -140,7 +140,7 @@ fn send_character<W: Counted>(byte: u8, waiting: &mut Vec<u8>, out: &mut W) -> T
     ensures room { vec_capacity waiting.old ≤ vec_capacity waiting.new }
     ensures few { result.bytes ≤ 1 }
     ensures puts { (W.told out.new).failed_puts ≡ counted (is_some result.fault) (W.told out.old).failed_puts }
-    ensures finishes { (W.told out.new).failed_finishes ≡ (W.told out.old).failed_finishes }
+    ensures finishes { (W.told out.new).finishes ≡ (W.told out.old).finishes }
 {
     let taken = put_whole(&[byte], out);
     if taken.fault.is_none() {
@@ -171,7 +171,7 @@ pub(crate) fn send_text<W: Counted>(text: &[u8], waiting: &mut Vec<u8>, out: &mu
     ensures room { vec_capacity waiting.old ≤ vec_capacity waiting.new }
     ensures few { result.bytes ≤ length text.now }
     ensures puts { (W.told out.new).failed_puts ≡ counted (is_some result.fault) (W.told out.old).failed_puts }
-    ensures finishes { (W.told out.new).failed_finishes ≡ (W.told out.old).failed_finishes }
+    ensures finishes { (W.told out.new).finishes ≡ (W.told out.old).finishes }
 {
     wait(text, waiting);
     send_waiting(waiting, out)
@@ -203,7 +203,7 @@ fn send_waiting<W: Counted>(waiting: &mut Vec<u8>, out: &mut W) -> Taken
     ensures capacity { vec_capacity waiting.new ≡ vec_capacity waiting.old }
     ensures few { result.bytes ≤ length waiting.old.items }
     ensures puts { (W.told out.new).failed_puts ≡ counted (is_some result.fault) (W.told out.old).failed_puts }
-    ensures finishes { (W.told out.new).failed_finishes ≡ (W.told out.old).failed_finishes }
+    ensures finishes { (W.told out.new).finishes ≡ (W.told out.old).finishes }
 {
     if waiting.is_empty() {
         return Taken {
@@ -225,7 +225,7 @@ fn put_whole<W: Counted>(text: &[u8], out: &mut W) -> Taken
     ensures whole { result.fault ≡ None → result.bytes ≡ length text.now }
     ensures part { result.fault ≢ None → result.bytes < length text.now }
     ensures puts { (W.told out.new).failed_puts ≡ counted (is_some result.fault) (W.told out.old).failed_puts }
-    ensures finishes { (W.told out.new).failed_finishes ≡ (W.told out.old).failed_finishes }
+    ensures finishes { (W.told out.new).finishes ≡ (W.told out.old).finishes }
 {
     let mut bytes = 0;
     while bytes < text.len() {

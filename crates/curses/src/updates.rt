@@ -1,7 +1,6 @@
 //! Updates: the operations that bring the terminal to a picture are made first, and then sent. The definitions are in
 //! `specs/Updates.antt`.
-ghost use Rattle.std.specs.Prelude.{◌≡◌, ◌≤◌, ◌^◌, IfOk, IfErr, IsErrOf, length, vec_capacity};
-ghost use Rattle.std.specs.Option.{is_some};
+ghost use Rattle.std.specs.Prelude.{◌≡◌, ◌≢◌, ◌≤◌, ◌^◌, None, IfOk, IfErr, IsErrOf, length, vec_capacity};
 ghost use Rattle.std.specs.Io.KnownBytes.{Keeps};
 ghost use Rattle.scr_term.specs.declared.operations.operation.Op.{Op};
 ghost use Rattle.scr_term.specs.Operations.Texts.{bytes_of};
@@ -11,7 +10,7 @@ ghost use Rattle.scr_memory.specs.Memories.{all_followed, forgotten};
 ghost use Rattle.scr_plan.specs.Plans.{IsPlan};
 ghost use Rattle.curses.specs.ScreenStates.{IsRemembered};
 ghost use Rattle.curses.specs.Updates.{AfterFault, IsDefinedAnew, IsFailed, IsShown, IsUpdated, begun_before, memory_after};
-ghost use Rattle.curses.specs.Writers.{counted};
+ghost use Rattle.curses.specs.Writers.{IsFinishFailed, IsFinished};
 
 use crate::faults::{Sent, UpdateFault};
 use crate::screens::Screen;
@@ -34,9 +33,10 @@ impl Screen {
     /// the picture with its cursor where it is wanted, all that it shows is known, nothing is owed, and no requested
     /// repaint is pending.
     ///
-    /// Tested, not proved: the writer is flushed if it accepted something; rows that are not known are erased and
-    /// painted, or the whole screen instead, if that is shorter or a repaint was requested; the pen stays as the last
-    /// text needed it.
+    /// If the writer accepted something, it was then asked once to finish, with no text after that.
+    ///
+    /// Tested, not proved: rows that are not known are erased and painted, or the whole screen instead, if that is
+    /// shorter or a repaint was requested; the pen stays as the last text needed it.
     ///
     /// The operations are made before the first byte is sent, and no memory is allocated after that. Windows, virtual
     /// screen and requested repaints stay as they were if it ends early:
@@ -166,7 +166,8 @@ fn planned(
 pub(crate) fn finish_after<W: Counted>(sent: u64, out: &mut W) -> Option<ErrorKind>
     ensures bytes { Keeps (W.told out.old).taken (W.told out.new).taken }
     ensures puts { (W.told out.new).failed_puts ≡ (W.told out.old).failed_puts }
-    ensures finishes { (W.told out.new).failed_finishes ≡ counted (is_some result) (W.told out.old).failed_finishes }
+    ensures finished { result ≡ None → IsFinished sent (W.told out.old) (W.told out.new) }
+    ensures failed { result ≢ None → IsFinishFailed (W.told out.old) (W.told out.new) }
 {
     if sent == 0 {
         return None;

@@ -155,6 +155,7 @@ fn new_terminal(alloc: Global, size: Size, charset: Charset) -> Result<Emulated,
     let opening = Opening {
         charset,
         keys: KeySet::All,
+        is_larger: false,
     };
     let screen = Screen::open_as(alloc, &entry, Some(size), opening)?;
     let terminal = EcmaScreen::new_as(alloc, size, charset)?;

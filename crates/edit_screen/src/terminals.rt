@@ -10,6 +10,7 @@ use terminal::{TerminalFault, TerminalScreen};
 const UTF8: Opening = Opening {
     charset: Charset::Utf8,
     keys: KeySet::All,
+    is_larger: false,
 };
 
 /// The terminal that an editor is run on.

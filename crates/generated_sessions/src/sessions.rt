@@ -111,6 +111,7 @@ pub fn opening_of(name: &str) -> Opening {
             Charset::Ascii
         },
         keys: KeySet::Table,
+        is_larger: false,
     }
 }
 

@@ -30,6 +30,7 @@ fn main(rt: HostRuntime) -> Result<()> {
     let opening = Opening {
         charset: Charset::Utf8,
         keys: KeySet::All,
+        is_larger: false,
     };
     let mut terminal = match std::env::args(&rt)?.count() {
         0 | 1 => TerminalScreen::open(&rt)?,

@@ -1,5 +1,5 @@
 -- Opening and closing a handle.
-use Rattle.std.specs.Prelude.{ℕ, ◌≡◌, ◌⊎◌, ◌==◌, [], List, Option, Some, None, MatchOption, if◌then◌else◌}
+use Rattle.std.specs.Prelude.{ℕ, ◌≡◌, ◌⊎◌, ◌==◌, Bool, true, false, [], List, Option, Some, None, MatchOption, if◌then◌else◌}
 use Rattle.scr_cells.specs.declared.charsets.Charset.{Charset}
 use Rattle.scr_cells.specs.declared.charsets.Charset.TheVariants.{Ascii, Utf8}
 use Rattle.scr_cells.specs.declared.sizes.Size.{Size}
@@ -53,9 +53,18 @@ open_reply (Profile fault) = profile_reply fault
 open_reply (KeyTooLong slot) = about 57 (Text, slot)
 open_reply NoMemory = refused 4
 
--- The charset that a number is given for.
-abbrev pub charset_given : ℕ → Option Charset
-charset_given number = if number == 0 then Some Ascii else if number == 1 then Some Utf8 else None
+-- How a session's screen is opened: with all keys, on a terminal with this charset that may be larger than the screen.
+abbrev pub asked_in : Charset → Bool → Opening
+asked_in charset is_larger = record { charset = charset; keys = All; is_larger = is_larger }
+
+-- The opening that a number is given for.
+abbrev pub opening_given : ℕ → Option Opening
+opening_given number =
+    if number == 0 then Some (asked_in Ascii false)
+    else if number == 1 then Some (asked_in Utf8 false)
+    else if number == 2 then Some (asked_in Ascii true)
+    else if number == 3 then Some (asked_in Utf8 true)
+    else None
 
 -- The size that is given: 0 rows and 0 columns stand for the entry's own.
 abbrev pub IsSizeGiven : ℕ → ℕ → Option Size → Type 0
@@ -77,17 +86,12 @@ IsNoEntry bytes reply =
 
 -- The writer of a session that was just opened: no bytes wait, and nothing failed.
 abbrev pub fresh_writer : WriterView
-fresh_writer = record { taken = Some []; failed_puts = 0; failed_finishes = 0 }
+fresh_writer = record { taken = Some []; failed_puts = 0; finishes = record { asked = 0; failed = 0 }; is_open = false }
 
--- How a session's screen is opened: with all keys.
-abbrev pub asked_in : Charset → Opening
-asked_in charset = record { charset = charset; keys = All }
-
--- A screen just opened on a terminal of this size, which is sent characters of this charset, on its entry as programs
--- take it.
-abbrev pub IsOpenedOn : Charset → Description → Option Size → Session → Type 0
-IsOpenedOn charset entry size session =
-    IsOpenedAdapted (asked_in charset) (adapted entry) size session.screen × (writer session ≡ fresh_writer)
+-- A screen just opened as is asked for on a terminal of this size, on its entry as programs take it.
+abbrev pub IsOpenedOn : Opening → Description → Option Size → Session → Type 0
+IsOpenedOn asked entry size session =
+    IsOpenedAdapted asked (adapted entry) size session.screen × (writer session ≡ fresh_writer)
 
 -- None was opened. Memory runs out only for an entry that is not Unsuitable.
 abbrev pub IsUnopenedOn : Description → Option Size → Reply → Type 0
@@ -95,12 +99,12 @@ IsUnopenedOn entry size reply =
     (fault : OpenFault) × IsUnopenedAdapted All (adapted entry) size fault × (fault ≡ NoMemory → IsSuitable (adapted entry).entry) × (reply ≡ open_reply fault)
 
 -- A screen just opened on the terminal of an entry that is known so, of the size that is given.
-pub record IsOpenedFrom (IsKnown : Description → Type 0) (charset : Charset) (rows columns : ℕ) (session : Session) : Type 0 where
+pub record IsOpenedFrom (IsKnown : Description → Type 0) (asked : Opening) (rows columns : ℕ) (session : Session) : Type 0 where
   pub entry : Description
   pub size : Option Size
   pub known : IsKnown entry
   pub given : IsSizeGiven rows columns size
-  pub opened : IsOpenedOn charset entry size session
+  pub opened : IsOpenedOn asked entry size session
 
 -- No screen of that size can be opened on the entry.
 pub record IsUnopenedFrom (IsKnown : Description → Type 0) (rows columns : ℕ) (reply : Reply) : Type 0 where
@@ -128,10 +132,10 @@ abbrev pub Opens : (Kept → Type 0) → (Reply → Type 0) → Option Kept → 
 Opens IsMade IsNotMade (Some old) new reply = (new ≡ Some old) × (reply ≡ refused 2)
 Opens IsMade IsNotMade None new reply = MatchOption new (IsNotMade reply) (λ kept. IsMade kept × (reply ≡ refused 0))
 
--- The same with the charset of a number. A number of no charset is refused, and the handle stays closed.
-abbrev pub OpensAs : (Charset → Kept → Type 0) → (Reply → Type 0) → ℕ → Option Kept → Option Kept → Reply → Type 0
+-- The same with the opening of a number. A number of none is refused, and the handle stays closed.
+abbrev pub OpensAs : (Opening → Kept → Type 0) → (Reply → Type 0) → ℕ → Option Kept → Option Kept → Reply → Type 0
 OpensAs IsMade IsNotMade number old new reply =
-    MatchOption (charset_given number) (Opens (λ kept. ⊥) (λ given. given ≡ refused 5) old new reply) (λ charset. Opens (IsMade charset) IsNotMade old new reply)
+    MatchOption (opening_given number) (Opens (λ kept. ⊥) (λ given. given ≡ refused 5) old new reply) (λ asked. Opens (IsMade asked) IsNotMade old new reply)
 
 -- The number that closing gives.
 abbrev pub close_number : Option Kept → ℕ

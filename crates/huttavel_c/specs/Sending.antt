@@ -17,7 +17,12 @@ waiting session = session.out.writer.items
 
 -- To the screen, the bytes that wait are those that its writer accepted.
 abbrev pub writer : Session → WriterView
-writer session = record { taken = Some (waiting session); failed_puts = session.out.failed_puts; failed_finishes = session.out.failed_finishes }
+writer session = record {
+  taken = Some (waiting session);
+  failed_puts = session.out.failed_puts;
+  finishes = record { asked = session.out.finishes; failed = session.out.failed_finishes };
+  is_open = session.out.is_open;
+}
 
 -- The numbers of how a start or a finish, and an update ended.
 abbrev pub sent_number : Result ℕ SendFault → ℕ

@@ -97,7 +97,7 @@ pub(crate) fn three(cell: Cell) -> Reply
     Reply {
         fault: 0,
         first: cell.code(),
-        second: u32::from(cell.byte()),
+        second: u32::from(cell.stand_in()),
         third: cell.pair() * 256 + u32::from(cell.attrs().0),
     }
 }
@@ -107,7 +107,7 @@ pub(crate) fn given(cell: Cell) -> GivenCell
     ensures { result ≡ given_cell cell }
 {
     GivenCell {
-        byte: cell.byte(),
+        byte: cell.stand_in(),
         attrs: cell.attrs().0,
         pair: cell.pair() as u8,
         character: cell.code(),

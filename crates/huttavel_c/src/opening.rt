@@ -5,7 +5,7 @@ ghost use Rattle.scr_term.specs.Operations.Admission.{IsSuitable};
 ghost use Rattle.ti_caps.specs.Bundled.{IsBundled};
 ghost use Rattle.ti_database.specs.Search.{IsEntry};
 ghost use Rattle.huttavel_c.specs.Asking.{OfScreen};
-ghost use Rattle.huttavel_c.specs.Opening.{IsClosedFrom, IsNoEntry, IsNoMemory, IsNoSize, IsOpenedFrom, IsOpenedOn, IsSizeGiven, IsUnopenedOn, OpensAs, about, asked_in, charset_given, close_number, fresh_writer, kind_number, open_reply, profile_reply};
+ghost use Rattle.huttavel_c.specs.Opening.{IsClosedFrom, IsNoEntry, IsNoMemory, IsNoSize, IsOpenedFrom, IsOpenedOn, IsSizeGiven, IsUnopenedOn, OpensAs, about, asked_in, close_number, fresh_writer, kind_number, open_reply, opening_given, profile_reply};
 ghost use Rattle.huttavel_c.specs.Replies.{refused};
 ghost use Rattle.huttavel_c.specs.Sending.{writer};
 
@@ -36,14 +36,28 @@ fn size_given(rows: u32, columns: u32) -> Result<Option<Size>, Reply>
     }
 }
 
-// The charset that a number is given for.
-fn charset_given(number: u32) -> Option<Charset>
-    ensures { result ≡ charset_given number }
+// The opening that a number is given for.
+fn opening_given(number: u32) -> Option<Opening>
+    ensures value { result ≡ opening_given number }
+    ensures keys { IfSome result (λ asked. asked.keys ≡ KeySet.All) }
 {
     match number {
-        0 => Some(Charset::Ascii),
-        1 => Some(Charset::Utf8),
+        0 => Some(asked_in(Charset::Ascii, false)),
+        1 => Some(asked_in(Charset::Utf8, false)),
+        2 => Some(asked_in(Charset::Ascii, true)),
+        3 => Some(asked_in(Charset::Utf8, true)),
         _ => None,
+    }
+}
+
+// How a session's screen is opened.
+fn asked_in(charset: Charset, is_larger: bool) -> Opening
+    ensures { result ≡ asked_in charset is_larger }
+{
+    Opening {
+        charset,
+        keys: KeySet::All,
+        is_larger,
     }
 }
 
@@ -143,33 +157,31 @@ fn session_on(alloc: Global, screen: Screen) -> Session
 fn screen_on(
     alloc: Global,
     entry: Entry,
-    charset: Charset,
+    asked: Opening,
     size: Option<Size>,
 ) -> Result<Screen, OpenFault>
-    ensures ok { IfOk result (IsOpenedAdapted (asked_in charset) (adapted entry) size) }
+    requires keys { asked.keys ≡ KeySet.All }
+    ensures ok { IfOk result (IsOpenedAdapted asked (adapted entry) size) }
     ensures err { IfErr result (IsUnopenedAdapted KeySet.All (adapted entry) size) }
     ensures suitable { IfOk result (λ _. IsSuitable (adapted entry).entry) }
     ensures memory { IsErrOf result OpenFault.NoMemory → IsSuitable (adapted entry).entry }
 {
     let adapted = AdaptedEntry::of(entry);
-    let opening = Opening {
-        charset,
-        keys: KeySet::All,
-    };
-    adapted.open(alloc, size, opening)
+    adapted.open(alloc, size, asked)
 }
 
 // A session on the terminal of an entry.
 fn opened_on(
     alloc: Global,
     entry: Entry,
-    charset: Charset,
+    asked: Opening,
     size: Option<Size>,
 ) -> Result<Box<Kept>, Reply>
-    ensures ok { IfOk result (λ kept. OfScreen (IsOpenedOn charset entry size) kept.value) }
+    requires keys { asked.keys ≡ KeySet.All }
+    ensures ok { IfOk result (λ kept. OfScreen (IsOpenedOn asked entry size) kept.value) }
     ensures err { IfErr result (IsUnopenedOn entry size) }
 {
-    match screen_on(alloc, entry, charset, size) {
+    match screen_on(alloc, entry, asked, size) {
         Ok(screen) => boxed(alloc, Kept::Screen(session_on(alloc, screen))),
         Err(fault) => Err(open_reply(fault)),
     }
@@ -179,31 +191,33 @@ fn opened_on(
 fn opened(
     alloc: Global,
     bytes: &[u8],
-    charset: Charset,
+    asked: Opening,
     rows: u32,
     columns: u32,
 ) -> Result<Box<Kept>, Reply>
-    ensures ok { IfOk result (λ kept. OfScreen (IsOpenedFrom (IsEntry bytes.now) charset rows columns) kept.value) }
+    requires keys { asked.keys ≡ KeySet.All }
+    ensures ok { IfOk result (λ kept. OfScreen (IsOpenedFrom (IsEntry bytes.now) asked rows columns) kept.value) }
     ensures err { IfErr result (IsClosedFrom (IsEntry bytes.now) (IsNoEntry bytes.now) rows columns) }
 {
     let size = size_given(rows, columns)?;
     let entry = entry_of(alloc, bytes)?;
-    opened_on(alloc, entry, charset, size)
+    opened_on(alloc, entry, asked, size)
 }
 
 // A session on the terminal of the bundled entry.
 fn opened_bundled(
     alloc: Global,
-    charset: Charset,
+    asked: Opening,
     rows: u32,
     columns: u32,
 ) -> Result<Box<Kept>, Reply>
-    ensures ok { IfOk result (λ kept. OfScreen (IsOpenedFrom IsBundled charset rows columns) kept.value) }
+    requires keys { asked.keys ≡ KeySet.All }
+    ensures ok { IfOk result (λ kept. OfScreen (IsOpenedFrom IsBundled asked rows columns) kept.value) }
     ensures err { IfErr result (IsClosedFrom IsBundled IsNoMemory rows columns) }
 {
     let size = size_given(rows, columns)?;
     let entry = bundled_entry(alloc)?;
-    opened_on(alloc, entry, charset, size)
+    opened_on(alloc, entry, asked, size)
 }
 
 // Puts what was opened into a closed handle.
@@ -224,50 +238,51 @@ pub(crate) fn keep(handle: &mut Handle, opened: Result<Box<Kept>, Reply>) -> Rep
 /// Opens a screen on the terminal of a compiled entry, with 16-bit or 32-bit numbers; 0 rows and 0 columns stand for
 /// the entry's own size. The entry is taken as `AdaptedEntry` says: colours come before the attributes that they
 /// exclude, and where a character in the last column would scroll, the screen has one column less. The terminal is sent
-/// ASCII if the charset is 0, and UTF-8 if it is 1. Gives the error's number and, if it is about a capability, its kind,
+/// ASCII if the opening is 0 or 2, and UTF-8 if it is 1 or 3; with 2 and 3 it may be larger than the screen. Gives the
+/// error's number and, if it is about a capability, its kind,
 /// 0 for a flag, 1 for a number and 2 for a text, and its position in the table.
 ///
-/// Refused: IS_OPEN; BAD_CHARSET for another charset; BAD_SIZE; the errors in a compiled entry; those of
+/// Refused: IS_OPEN; BAD_CHARSET for another opening; BAD_SIZE; the errors in a compiled entry; those of
 /// `AdaptedEntry::open`; NO_MEMORY.
 #[unsafe(no_mangle)]
 pub extern "C" fn huttavel_held_open(
     alloc: Global,
     handle: &mut Handle,
     entry: &[u8],
-    charset: u32,
+    opening: u32,
     rows: u32,
     columns: u32,
 ) -> Reply
-    ensures { OpensAs (λ given. OfScreen (IsOpenedFrom (IsEntry entry.now) given rows columns)) (IsClosedFrom (IsEntry entry.now) (IsNoEntry entry.now) rows columns) charset handle.old.held.value handle.new.held.value result }
+    ensures { OpensAs (λ given. OfScreen (IsOpenedFrom (IsEntry entry.now) given rows columns)) (IsClosedFrom (IsEntry entry.now) (IsNoEntry entry.now) rows columns) opening handle.old.held.value handle.new.held.value result }
 {
     if handle.is_open() {
         return refused(IS_OPEN);
     }
-    let Some(charset) = charset_given(charset) else {
+    let Some(asked) = opening_given(opening) else {
         return refused(BAD_CHARSET);
     };
-    keep(handle, opened(alloc, entry, charset, rows, columns))
+    keep(handle, opened(alloc, entry, asked, rows, columns))
 }
 
-/// Opens a screen on the terminal of the bundled entry, with a charset in the same way. Refused: IS_OPEN; BAD_CHARSET;
+/// Opens a screen on the terminal of the bundled entry, with an opening in the same way. Refused: IS_OPEN; BAD_CHARSET;
 /// BAD_SIZE; NO_MEMORY.
 #[unsafe(no_mangle)]
 pub extern "C" fn huttavel_held_open_bundled(
     alloc: Global,
     handle: &mut Handle,
-    charset: u32,
+    opening: u32,
     rows: u32,
     columns: u32,
 ) -> Reply
-    ensures { OpensAs (λ given. OfScreen (IsOpenedFrom IsBundled given rows columns)) (IsClosedFrom IsBundled IsNoMemory rows columns) charset handle.old.held.value handle.new.held.value result }
+    ensures { OpensAs (λ given. OfScreen (IsOpenedFrom IsBundled given rows columns)) (IsClosedFrom IsBundled IsNoMemory rows columns) opening handle.old.held.value handle.new.held.value result }
 {
     if handle.is_open() {
         return refused(IS_OPEN);
     }
-    let Some(charset) = charset_given(charset) else {
+    let Some(asked) = opening_given(opening) else {
         return refused(BAD_CHARSET);
     };
-    keep(handle, opened_bundled(alloc, charset, rows, columns))
+    keep(handle, opened_bundled(alloc, asked, rows, columns))
 }
 
 /// Closes a handle and frees what it held; bytes that wait are lost.

@@ -30,7 +30,7 @@ fn character_of(charset: Charset, cell: Cell) -> char
     ensures { result ≡ seen_character charset cell.character }
 {
     match charset {
-        Charset::Ascii => char::from(cell.byte()),
+        Charset::Ascii => char::from(cell.stand_in()),
         Charset::Utf8 => cell.character(),
     }
 }

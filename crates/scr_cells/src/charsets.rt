@@ -33,7 +33,7 @@ impl Charset {
     {
         crate::character_laws();
         match self {
-            Charset::Ascii => u32::from(cell.byte()),
+            Charset::Ascii => u32::from(cell.stand_in()),
             Charset::Utf8 => cell.code(),
         }
     }

@@ -103,12 +103,21 @@ impl Look {
 
     /// The stand-in of the character: the byte, 32 to 126, that is shown for it where the terminal has ASCII alone. A
     /// character of ASCII stands for itself.
-    pub fn byte(self) -> u8
+    pub fn stand_in(self) -> u8
         ensures value { result ≡ stand_in self.character }
         ensures ascii { IsAscii result }
         ensures look { IsLook self }
     {
         stand_in(self.code())
+    }
+
+    /// The byte of a character of ASCII; of any other its stand-in (`stand_in`), not the character itself.
+    pub fn byte(self) -> u8
+        ensures value { result ≡ stand_in self.character }
+        ensures ascii { IsAscii result }
+        ensures look { IsLook self }
+    {
+        self.stand_in()
     }
 
     /// What the character is written with.

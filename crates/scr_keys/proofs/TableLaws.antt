@@ -1,6 +1,7 @@
 -- The keys of an entry, one after another.
-use Rattle.std.proofs.Common.{◌≡◌, ◌∙◌, ℕ, ◌+◌, ◌-◌, ◌<◌, ◌≤◌, ◌⊎◌, inl, inr, max, Bool, true, false, ◌||◌, refl, ap, sym, arith, zero, suc, length, take, get_or, List, [], ◌∷◌, ◌++◌, Some, None, is_some, nat_lt, if◌then◌else◌}
+use Rattle.std.proofs.Common.{◌≡◌, ◌∙◌, ℕ, ◌+◌, ◌-◌, ◌<◌, ◌≤◌, ◌⊎◌, inl, inr, max, Bool, true, false, ◌||◌, refl, ap, sym, arith, zero, suc, length, take, get_or, List, [], ◌∷◌, ◌++◌, Option, Some, None, is_some, nat_lt, if◌then◌else◌}
 use Rattle.std.proofs.lemmas.Bool.{cases_lt}
+use Rattle.std.proofs.lemmas.Bool.Decides.{nat_tests}
 use Rattle.std.proofs.lemmas.List.{length-take-le, take-take, take_all}
 use Rattle.std.proofs.lemmas.Slice.Eq.{bytes_eq-Decides}
 use Rattle.ti_caps.specs.Description.{Description}
@@ -105,6 +106,30 @@ keys_in_all set entry keys n is all = is ∙ ap (keys_below set entry) all
 pub none_in_all : (set : KeySet) (entry : Description) (n : ℕ) → too_long_below set entry n ≡ None → n ≡ 512 → too_long set entry ≡ None
 unfolding too_long
 none_in_all set entry n none all = sym (ap (too_long_below set entry) all) ∙ none
+
+-- where no text is too long, none at a position is
+pub short_at : (set : KeySet) (entry : Description) (n : ℕ) → n < 512 → too_long set entry ≡ None → nat_lt 64 (length (text_of_key set entry n)) ≡ false
+unfolding too_long
+short_at set entry n inside none = by (too_long_below set entry (n + 1)) refl
+  where
+    never : {m : ℕ} → Some m ≡ None → ⊥
+    never e = (cc)
+
+    from : (o : Option ℕ) (b : Bool) → or_else o (if b then Some n else None) ≡ None → b ≡ false
+    from None true e = absurd (never e)
+    from None false e = refl
+    from (Some m) b e = absurd (never e)
+
+    by : (o : Option ℕ) → too_long_below set entry (n + 1) ≡ o → nat_lt 64 (length (text_of_key set entry n)) ≡ false
+    by None is = let e : suc n ≡ n + 1 = omega arith in from (too_long_below set entry n) (nat_lt 64 (length (text_of_key set entry n))) (ap (too_long_below set entry) e ∙ is)
+    by (Some m) is =
+        let e : n + 1 + (511 - n) ≡ 512 = omega (arith, inside) in
+        absurd (never (sym (long_stays set entry (n + 1) (511 - n) m is) ∙ ap (too_long_below set entry) e ∙ none))
+
+pub short_text : (set : KeySet) (entry : Description) (n : ℕ) (text : List ℕ) → n < 512 → too_long set entry ≡ None → text ≡ text_of_key set entry n → length text ≤ 64
+short_text set entry n text inside none same =
+    let few : nat_lt 64 (length text) ≡ false = ap (λ t. nat_lt 64 (length t)) same ∙ short_at set entry n inside none in
+    grind (arith, nat_tests)
 
 pub keys_more : (set : KeySet) (entry : Description) (keys new : Keys) (n : ℕ) (text : List ℕ) → keys ≡ keys_below set entry n → text ≡ text_of_key set entry n → new ≡ with_key keys text n → new ≡ keys_below set entry (n + 1)
 keys_more set entry keys new n text is same all =

@@ -1,7 +1,7 @@
 //! The keys of a terminal, and how they are found.
 ghost use Rattle.std.specs.Prelude.{◌≡◌, ◌+◌, ◌<◌, ◌≤◌, ◌≢◌, ◌==◌, [], ◌∷◌, ◌++◌, None, IfErr, IfOk, IfSome, IsErrOf, OnErr, length, nat_lt};
 ghost use Rattle.std.specs.Prelude.{option_map};
-ghost use Rattle.scr_keys.specs.Tables.{AreKeysOf, AreRefused, HasKeyAt, HasKeys, is_key, is_new, text_name_at, text_of_key, with_key};
+ghost use Rattle.scr_keys.specs.Tables.{AreKeysOf, AreRefused, HasKeyAt, HasKeys, is_key, is_new, text_name_at, text_of_key, too_long, with_key};
 ghost use Rattle.scr_keys.specs.Keys.{first_of, goes_on, key_of, longest, longest_text};
 
 use crate::faults::KeyFault;
@@ -12,7 +12,7 @@ use out_of_memory::NoMemory;
 use std::alloc::Global;
 use std::marker::Model;
 use ti_caps::{Entry, Kind, MOST_TEXTS, Slot, name_of, standard};
-use ti_param::{padding_is_removed, padding_is_removed_once, strip_padding};
+use ti_param::{padding_is_removed, padding_is_removed_once, strip_padding, stripped_length};
 
 /// The keys of a terminal, each with the text that it sends.
 #[derive(Drop)]
@@ -37,6 +37,7 @@ impl KeyTable {
         ensures ok { IfOk result (AreKeysOf KeySet.Table entry.now) }
         ensures err { IfErr result (AreRefused KeySet.Table entry.now) }
         ensures memory { IsErrOf result KeyFault.NoMemory → HasKeys KeySet.Table entry.now }
+        ensures few { IsErrOf result KeyFault.NoMemory → too_long KeySet.Table entry.now ≡ None }
     {
         KeyTable::of_set(alloc, entry, KeySet::Table)
     }
@@ -46,6 +47,7 @@ impl KeyTable {
         ensures ok { IfOk result (AreKeysOf KeySet.All entry.now) }
         ensures err { IfErr result (AreRefused KeySet.All entry.now) }
         ensures memory { IsErrOf result KeyFault.NoMemory → HasKeys KeySet.All entry.now }
+        ensures few { IsErrOf result KeyFault.NoMemory → too_long KeySet.All entry.now ≡ None }
     {
         KeyTable::of_set(alloc, entry, KeySet::All)
     }
@@ -53,19 +55,20 @@ impl KeyTable {
     /// Makes the table of an entry's keys: the texts that have one of these names, without padding, all other bytes as
     /// they are. An empty text is not a key; of two keys that send the same, the one at the lower position counts.
     ///
-    /// Refused: KeyTooLong with the lowest position whose text has more than 64 bytes; NoMemory if memory runs out,
-    /// which it cannot if no key has a text. terminfo(5), 'Function Keys'.
+    /// Refused: KeyTooLong with the lowest position whose text has more than 64 bytes, which is found before any
+    /// allocation; NoMemory if memory runs out, which it cannot if no key has a text. terminfo(5), 'Function Keys'.
     pub fn of_set(alloc: Global, entry: &Entry, set: KeySet) -> Result<KeyTable, KeyFault>
         ensures ok { IfOk result (AreKeysOf set entry.now) }
         ensures err { IfErr result (AreRefused set entry.now) }
         ensures memory { IsErrOf result KeyFault.NoMemory → HasKeys set entry.now }
+        ensures few { IsErrOf result KeyFault.NoMemory → too_long set entry.now ≡ None }
     {
+        if let Some(slot) = too_long(entry, set) {
+            return Err(KeyFault::KeyTooLong(Slot(slot)));
+        }
         let mut maps = KeyMaps::empty(alloc);
         for slot in 0..MOST_TEXTS as u16 {
             let text = text_of_key(alloc, entry, set, Slot(slot))?;
-            if is_too_long(&text) {
-                return Err(KeyFault::KeyTooLong(Slot(slot)));
-            }
             maps.add_key(alloc, text, slot)?;
         }
         Ok(KeyTable { maps })
@@ -124,11 +127,26 @@ impl KeyTable {
     }
 }
 
-// Whether a text is too long for a key.
-fn is_too_long(text: &[u8]) -> bool
-    ensures { result ≡ nat_lt 64 (length text.now) }
+// The lowest position of a key whose text is too long.
+fn too_long(entry: &Entry, set: KeySet) -> Option<u16>
+    ensures { result ≡ too_long set entry.now }
 {
-    text.len() > 64
+    for slot in 0..MOST_TEXTS as u16 {
+        if is_too_long(entry, set, Slot(slot)) {
+            return Some(slot);
+        }
+    }
+    None
+}
+
+// Whether the text of the key at a position is too long.
+fn is_too_long(entry: &Entry, set: KeySet, slot: Slot) -> bool
+    ensures { result ≡ nat_lt 64 (length (text_of_key set entry.now slot.0)) }
+{
+    match entry.text(slot) {
+        Some(text) => stripped_length(text) > 64 && is_key(set, slot),
+        None => false,
+    }
 }
 
 // What the key at a position sends, without padding; nothing if there is no key.

@@ -15,5 +15,6 @@ mod StepLaws
 mod RunTextLaws
 pub mod RenderingLaws
 pub mod AdmissionLaws
+mod LargerLaws
 pub mod BundledSuitsLaws
 pub mod BundledLaws

@@ -11,4 +11,5 @@ pub mod Pieces
 pub mod Texts
 pub mod Painted
 pub mod Laws
+pub mod Larger
 pub mod Bundled

@@ -1,5 +1,5 @@
 -- What one line of a run leaves on the stage and in a writer. Definitions that only private functions use.
-use Rattle.std.specs.Prelude.{ℕ, ◌≡◌, ◌++◌, ◌⊎◌, Bool, List, Option, Some}
+use Rattle.std.specs.Prelude.{ℕ, ◌≡◌, ◌++◌, ◌⊎◌, Bool, false, List, Option, Some}
 use Rattle.std.specs.Io.KnownBytes.{Appends, Keeps}
 use Rattle.scr_cells.specs.declared.charsets.Charset.{Charset}
 use Rattle.scr_cells.specs.declared.sizes.Size.{Size}
@@ -48,4 +48,4 @@ pub record CommandRefuses (old : ScreenState) (command : Command) (before after 
 pub record IsOpenedOn (charset : Charset) (size : Size) (screen : ScreenState) : Type 0 where
   pub entry : Description
   pub bundled : IsBundled entry
-  pub is : IsOpenedAs (record { charset = charset; keys = Table }) entry (Some size) screen
+  pub is : IsOpenedAs (record { charset = charset; keys = Table; is_larger = false }) entry (Some size) screen

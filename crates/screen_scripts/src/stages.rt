@@ -62,6 +62,7 @@ fn open_screen(alloc: Global, charset: Charset, size: Size) -> Result<Screen, No
     let opening = Opening {
         charset,
         keys: KeySet::Table,
+        is_larger: false,
     };
     match Screen::open_as(alloc, &entry, Some(size), opening) {
         Ok(screen) => Ok(screen),

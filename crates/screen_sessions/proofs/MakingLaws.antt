@@ -4,7 +4,7 @@ use Rattle.scr_term.specs.declared.operations.operation.Op.{Op}
 use Rattle.scr_term.specs.Operations.Profiles.{ProfileView, IsProfile, abilities}
 use Rattle.scr_term.specs.Operations.States.{TerminalState, IsState}
 use Rattle.scr_term.specs.Operations.Steps.{runs}
-use Rattle.scr_memory.specs.Memories.{Agrees, MemoryLaws, MemoryView, disturbed, forgotten}
+use Rattle.scr_memory.specs.Memories.{Agrees, MemoryLaws, MemoryView, disturbed, forgotten, is_known}
 use Rattle.scr_memory.specs.MemoryRuns.{MemoryRuns}
 use Rattle.scr_windows.specs.Calls.Reading.{screen_rows_answer, size_answer}
 use Rattle.scr_windows.specs.declared.faults.Win.{Win}
@@ -24,9 +24,9 @@ use Rattle.curses.specs.declared.faults.UpdateFault.TheVariants as update_faults
 use Rattle.screen_sessions.specs.Making.{IsMade, drawn_of}
 use Rattle.curses.specs.Refreshing.{OnBoth, OnTerminal, OnVirtual, all_disturbed, lines_disturbed, redraw_lines_call, redraw_window_call, rows_disturbed, window_disturbed}
 use Rattle.curses.specs.ScreenStates.{ScreenState}
-use Rattle.screen_sessions.specs.Sessions.{Drawn, RightAnswer, begun_of, both_told, count_of, is_cut, is_unfinished, is_update, left_by, marked_by, memory_then, memory_marked, memory_updated, ran_out, rows_told, screen_call, tells_sent, virtual_told, window_told, windows_told}
+use Rattle.screen_sessions.specs.Sessions.{Drawn, RightAnswer, begun_of, both_told, count_of, finishes_after, is_cut, is_update, left_by, marked_by, memory_then, memory_marked, memory_updated, ran_out, rows_told, screen_call, tells_sent, virtual_told, window_told, windows_told}
 use Rattle.curses.specs.Updates.{IsFailed, IsSent, IsShown}
-use Rattle.curses.specs.Writers.{WriterView, counted}
+use Rattle.curses.specs.Writers.{Finishes, WriterView, counted}
 use Rattle.screen_sessions.proofs.TakenLaws.{cut_none}
 
 -- ---- calls that send nothing
@@ -79,7 +79,7 @@ pub record Quiet (answer : Answer) : Type 0 where
   pub count : count_of answer ≡ 0
   pub well : tells_sent answer ≡ false
   pub cut : is_cut answer ≡ false
-  pub unfinished : is_unfinished answer ≡ false
+  pub finishes : (finishes : Finishes) → finishes_after answer finishes ≡ finishes
 
 -- a call that is no update was made as its definition says
 made_so : (old new : ScreenState) (call : Call) (answer : Answer) (w : WriterView) → is_update call ≡ false → Quiet answer → new.profile ≡ old.profile → new.keys ≡ old.keys → new.opening ≡ old.opening → new.closing ≡ old.closing → new.owed ≡ old.owed
@@ -100,15 +100,16 @@ made_so old new call answer w update quiet profile keys opening closing owed mem
   agrees = agrees_on old.profile old.memory new.memory (begun_of answer) quiet.begun still;
   well = λ sent. absurd (never (sym sent ∙ quiet.well));
   puts = sym (ap (λ b. counted b w.failed_puts) quiet.cut);
-  finishes = sym (ap (λ b. counted b w.failed_finishes) quiet.unfinished);
+  finishes = sym (quiet.finishes w.finishes);
+  last = λ sent some. absurd (never (sym sent ∙ quiet.well));
 }
   where
     never : true ≡ false → ⊥
     never e = (cc)
 
 quiet_done : (got : Result (Unit {0}) WinFault) → Quiet (answered (λ _. Nothing) got)
-quiet_done (Ok done) = record { begun = refl; count = refl; well = refl; cut = refl; unfinished = refl }
-quiet_done (Err fault) = record { begun = refl; count = refl; well = refl; cut = refl; unfinished = refl }
+quiet_done (Ok done) = record { begun = refl; count = refl; well = refl; cut = refl; finishes = λ f. refl }
+quiet_done (Err fault) = record { begun = refl; count = refl; well = refl; cut = refl; finishes = λ f. refl }
 
 -- a call that takes a window or a pad
 pub both_made : (old new : ScreenState) (call : Call) (got : Result (Unit {0}) WinFault) (answer : Answer) (w : WriterView) (own : (VirtualView × DeskView) × Result (Unit {0}) WinFault)
@@ -196,9 +197,16 @@ shown_made runs old new sent before after is shown = record {
   quiet = λ other. absurd (untrue (sym other));
   sent = shown.updated.sent;
   agrees = λ state next agrees run. subst (λ m. Agrees (abilities old.profile) m next) (sym (ap (λ s. s.memory) shown.screen)) (runs.follows old.profile is old.memory shown.updated.possible state next sent.begun agrees run);
-  well = λ well. record { picture = ap (λ s. s.virtual.picture) shown.screen; plan = shown.updated.plan; possible = shown.updated.possible; nothing = ap (λ s. s.owed) shown.screen };
+  well = λ well. record {
+    picture = ap (λ s. s.virtual.picture) shown.screen;
+    plan = shown.updated.plan;
+    possible = shown.updated.possible;
+    known = ap (λ s. is_known s.memory) shown.screen ∙ shown.updated.known;
+    nothing = ap (λ s. s.owed) shown.screen;
+  };
   puts = shown.updated.puts;
-  finishes = shown.updated.finishes;
+  finishes = shown.updated.finished.finishes;
+  last = λ well some. shown.updated.finished.last some;
 }
 
 pub failed_made : MemoryLaws → (old new : ScreenState) (fault : UpdateFault) (before after : WriterView) → IsFailed old new before after fault → IsMade old new Doupdate (Failed fault) before after
@@ -215,7 +223,8 @@ failed_made laws old new update_faults.NoMemory before after failed = record {
   agrees = agrees_on old.profile old.memory new.memory [] refl (still_same old.profile old.memory new.memory (ap (λ s. s.memory) failed.screen));
   well = λ well. absurd (untrue well);
   puts = ap (λ w. w.failed_puts) failed.fault_told.1;
-  finishes = ap (λ w. w.failed_finishes) failed.fault_told.1;
+  finishes = ap (λ w. w.finishes) failed.fault_told.1;
+  last = λ well some. absurd (untrue well);
 }
 failed_made laws old new (update_faults.Write begun count kind) before after failed = record {
   profile = ap (λ s. s.profile) failed.screen;
@@ -231,6 +240,7 @@ failed_made laws old new (update_faults.Write begun count kind) before after fai
   well = λ well. absurd (untrue well);
   puts = failed.fault_told.puts;
   finishes = failed.fault_told.finishes;
+  last = λ well some. absurd (untrue well);
 }
 failed_made laws old new (update_faults.Flush begun count kind) before after failed = record {
   profile = ap (λ s. s.profile) failed.screen;
@@ -245,7 +255,8 @@ failed_made laws old new (update_faults.Flush begun count kind) before after fai
   agrees = forgets_all laws old new begun (ap (λ s. s.memory) failed.screen) failed.fault_told.sent;
   well = λ well. absurd (untrue well);
   puts = failed.fault_told.puts;
-  finishes = failed.fault_told.finishes;
+  finishes = failed.fault_told.finished.finishes;
+  last = λ well some. absurd (untrue well);
 }
 
 -- ---- calls on windows
@@ -253,12 +264,12 @@ failed_made laws old new (update_faults.Flush begun count kind) before after fai
 -- what a call that is no update answers says nothing of one
 quiet_told : (answer : Answer) → is_told answer ≡ true → Quiet answer
 quiet_told Nothing told = quiet_done (Ok tt)
-quiet_told (Made win) told = record { begun = refl; count = refl; well = refl; cut = refl; unfinished = refl }
-quiet_told (Added all) told = record { begun = refl; count = refl; well = refl; cut = refl; unfinished = refl }
-quiet_told (Seen cell) told = record { begun = refl; count = refl; well = refl; cut = refl; unfinished = refl }
-quiet_told (Pair a b) told = record { begun = refl; count = refl; well = refl; cut = refl; unfinished = refl }
-quiet_told (Touched touched) told = record { begun = refl; count = refl; well = refl; cut = refl; unfinished = refl }
-quiet_told (Refused fault) told = record { begun = refl; count = refl; well = refl; cut = refl; unfinished = refl }
+quiet_told (Made win) told = record { begun = refl; count = refl; well = refl; cut = refl; finishes = λ f. refl }
+quiet_told (Added all) told = record { begun = refl; count = refl; well = refl; cut = refl; finishes = λ f. refl }
+quiet_told (Seen cell) told = record { begun = refl; count = refl; well = refl; cut = refl; finishes = λ f. refl }
+quiet_told (Pair a b) told = record { begun = refl; count = refl; well = refl; cut = refl; finishes = λ f. refl }
+quiet_told (Touched touched) told = record { begun = refl; count = refl; well = refl; cut = refl; finishes = λ f. refl }
+quiet_told (Refused fault) told = record { begun = refl; count = refl; well = refl; cut = refl; finishes = λ f. refl }
 quiet_told (Sent sent) told = absurd (untrue told)
 quiet_told (Failed fault) told = absurd (untrue told)
 
@@ -293,6 +304,7 @@ windows_made old new call answer w is told (inr refused) =
       well = λ sent. absurd (never sent);
       puts = refl;
       finishes = refl;
+      last = λ sent some. absurd (never sent);
     })
   where
     never : false ≡ true → ⊥

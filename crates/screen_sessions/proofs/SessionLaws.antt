@@ -1,5 +1,5 @@
 -- A session goes on from call to call.
-use Rattle.std.proofs.Common.{◌≡◌, ℕ, ◌+◌, ◌≤◌, ◌<◌, ◌⊎◌, ◌&&◌, not, Bool, true, false, refl, sym, ◌∙◌, ap, subst, arith, List, [], ◌∷◌, ◌++◌, append_assoc, length, take, get_or, Some, zero, suc, inl, inr}
+use Rattle.std.proofs.Common.{◌≡◌, ℕ, ◌+◌, ◌≤◌, ◌<◌, ◌⊎◌, ◌&&◌, not, Bool, true, false, refl, sym, ◌∙◌, ap, subst, arith, List, [], ◌∷◌, ◌++◌, append_assoc, length, take, get_or, Option, None, Some, is_some, zero, suc, inl, inr, if◌then◌else◌}
 use Rattle.std.specs.List.{list_all}
 use Rattle.std.proofs.lemmas.List.{append-nil, get_or_append_left, length-append, length-take-le, take-append-le, take_all, take_more}
 use Rattle.std.proofs.lemmas.Grind.{flat_map-append}
@@ -18,16 +18,18 @@ use Rattle.scr_plan.specs.Plans.{IsPlan, PlanIsCheap}
 use Rattle.scr_plan.specs.Repaints.{joined_of}
 use Rattle.scr_plan.specs.Scratch.{RunsToShow}
 use Rattle.screen_sessions.specs.declared.answers.Answer.{Answer}
-use Rattle.screen_sessions.specs.declared.answers.Answer.TheVariants.{Nothing}
+use Rattle.screen_sessions.specs.declared.answers.Answer.TheVariants.{Added, Failed, Made, Nothing, Pair, Refused, Seen, Sent, Touched}
 use Rattle.screen_sessions.specs.declared.calls.Call.{Call}
 use Rattle.screen_sessions.specs.declared.calls.Call.TheVariants.{Doupdate}
 use Rattle.screen_sessions.specs.Code.Progress.{AreMadeAfresh, IsFresh, Reached, SoFar}
 use Rattle.screen_sessions.specs.Making.{IsMade, drawn_of}
 use Rattle.curses.specs.ScreenStates.{ScreenState}
+use Rattle.curses.specs.declared.faults.UpdateFault.TheVariants as update_faults
+use Rattle.curses.specs.declared.faults.UpdateFault.TheVariants.{Flush, Write}
 use Rattle.screen_sessions.specs.declared.sessions.Report.{Report}
-use Rattle.screen_sessions.specs.Sessions.{AreMade, Beginning, Drawn, IsAnswer, IsCheap, IsSession, MayBegin, Moment, OwesNothing, after_call, after_calls, begun_in, begun_of, beginning_of, count_in, count_of, counted_in, drawn_at, ended_well, is_cut, is_unfinished, is_update, last_ok_after, memory_then, remembered_at, remembered_after, tells_sent}
+use Rattle.screen_sessions.specs.Sessions.{AreMade, Beginning, Drawn, IsAnswer, IsCheap, IsKnownAt, IsKnownSince, IsSession, MayBegin, Moment, OwesNothing, after_call, after_calls, begun_in, begun_of, beginning_of, count_in, count_of, counted_in, drawn_at, ended_well, finishes_after, finishes_in, forgets, is_cut, is_update, last_ok_after, marked_by, memory_marked, memory_then, memory_updated, remembered_at, remembered_after, tells_sent}
 use Rattle.curses.specs.Updates.{IsOfOneText, IsSent}
-use Rattle.curses.specs.Writers.{WriterView, counted}
+use Rattle.curses.specs.Writers.{Finishes, WriterView, counted}
 use Rattle.screen_sessions.proofs.TakenLaws.{appends_more, appends_none, one_after}
 
 -- ---- lists
@@ -46,6 +48,14 @@ before_or_last (suc i) (suc k) h = further (before_or_last i k (omega (arith, h)
 -- the first elements of a list with one more
 first_of : {A : Type 0} → (n : ℕ) (xs : List A) (x : A) → n ≤ length xs → take n (xs ++ x ∷ []) ≡ take n xs
 first_of n xs x few = take-append-le n xs (x ∷ []) few
+
+-- a place at most one past the end
+least_or_last : (i k : ℕ) → i ≤ k + 1 → (i ≤ k) ⊎ (i ≡ k + 1)
+least_or_last i k few = by (before_or_last i (k + 1) (omega (arith, few)))
+  where
+    by : (i < k + 1) ⊎ (i ≡ k + 1) → (i ≤ k) ⊎ (i ≡ k + 1)
+    by (inl l) = inl (omega (arith, l))
+    by (inr e) = inr e
 
 all_of : {A : Type 0} → (xs : List A) (x : A) → take (length xs + 1) (xs ++ x ∷ []) ≡ xs ++ x ∷ []
 all_of xs x = take_all (length xs + 1) (xs ++ x ∷ []) (omega (arith, length-append xs (x ∷ [])))
@@ -113,6 +123,10 @@ counted_more : (kind : Answer → Bool) (answers : List Answer) (answer : Answer
 counted_more kind [] answer count = refl
 counted_more kind (a ∷ answers) answer count = counted_more kind answers answer (counted (kind a) count)
 
+finishes_more : (answers : List Answer) (answer : Answer) (finishes : Finishes) → finishes_in (answers ++ answer ∷ []) finishes ≡ finishes_after answer (finishes_in answers finishes)
+finishes_more [] answer finishes = refl
+finishes_more (a ∷ answers) answer finishes = finishes_more answers answer (finishes_after a finishes)
+
 -- ---- one call more
 
 none_left : (bytes : List ℕ) → length bytes ≡ 0 → bytes ≡ []
@@ -133,6 +147,9 @@ reached_more laws profile m n opened begun more is sent agrees =
       agrees = agrees is.now next.new is.agrees next.run;
     }
 
+true_not_false : true ≡ false → ⊥
+true_not_false e = (cc)
+
 some_same : (a b : TerminalState) → Some a ≡ Some b → a ≡ b
 some_same a b e = (cc)
 
@@ -142,6 +159,43 @@ not_false true e = absurd (never e)
   where
     never : false ≡ true → ⊥
     never f = (cc)
+
+-- ---- what is known
+
+-- an update that changes nothing of it, or a call that marks nothing
+same_memory : (update : Bool) (memory updated : MemoryView) (rows : Option (ℕ × ℕ)) → updated ≡ memory → is_some rows ≡ false → (if update then updated else memory_marked memory rows) ≡ memory
+same_memory true memory updated rows same none = same
+same_memory false memory updated None same none = refl
+same_memory false memory updated (Some rows) same none = absurd (never none)
+  where
+    never : true ≡ false → ⊥
+    never e = (cc)
+
+-- a call that begins nothing, and forgets nothing
+stays : (old new : ScreenState) (call : Call) (answer : Answer) (w v : WriterView) → IsMade old new call answer w v → begun_of answer ≡ [] → memory_updated old.profile old.memory answer ≡ old.memory → is_some (marked_by old.desk call) ≡ false
+    → is_known old.memory ≡ true → old.owed ≡ [] → (is_known new.memory ≡ true) × (new.owed ≡ [])
+stays old new call answer w v made begun updated marks known nothing =
+    let text : length (old.owed ++ all_bytes old.profile (begun_of answer)) ≡ 0 =
+    ap (λ o. length (o ++ all_bytes old.profile (begun_of answer))) nothing ∙ ap (λ ops. length (all_bytes old.profile ops)) begun in
+    (
+      ap is_known (made.memory ∙ same_memory (is_update call) old.memory (memory_updated old.profile old.memory answer) (marked_by old.desk call) updated marks) ∙ known,
+      none_left new.owed (omega (arith, text, ap length made.sent.cut.whole, length-append made.sent.cut.taken new.owed)),
+    )
+
+-- where all was known and nothing owed, so it is after a call, unless it forgets
+stays_known : (old new : ScreenState) (call : Call) (answer : Answer) (w v : WriterView) → IsMade old new call answer w v → forgets old.desk call answer ≡ false → is_known old.memory ≡ true → old.owed ≡ []
+    → (is_known new.memory ≡ true) × (new.owed ≡ [])
+stays_known old new call (Sent sent) w v made kept known nothing = ((made.well refl).known, (made.well refl).nothing)
+stays_known old new call (Failed (Write begun sent kind)) w v made kept known nothing = absurd (true_not_false kept)
+stays_known old new call (Failed (Flush begun sent kind)) w v made kept known nothing = absurd (true_not_false kept)
+stays_known old new call (Failed update_faults.NoMemory) w v made kept known nothing = stays old new call _ w v made refl refl kept known nothing
+stays_known old new call Nothing w v made kept known nothing = stays old new call _ w v made refl refl kept known nothing
+stays_known old new call (Made win) w v made kept known nothing = stays old new call _ w v made refl refl kept known nothing
+stays_known old new call (Added all) w v made kept known nothing = stays old new call _ w v made refl refl kept known nothing
+stays_known old new call (Seen cell) w v made kept known nothing = stays old new call _ w v made refl refl kept known nothing
+stays_known old new call (Pair a b) w v made kept known nothing = stays old new call _ w v made refl refl kept known nothing
+stays_known old new call (Touched touched) w v made kept known nothing = stays old new call _ w v made refl refl kept known nothing
+stays_known old new call (Refused fault) w v made kept known nothing = stays old new call _ w v made refl refl kept known nothing
 
 -- right after a call
 moment_now : BytesActAsTheirOperations → (profile : ProfileView) (opened now : TerminalState) (before : List ℕ) (begun : List Op) (taken owed : List ℕ) (picture : PictureView) (well : Bool) → IsState (abilities profile) opened
@@ -179,14 +233,16 @@ one_more laws acts remembers cheap profile first begun calls answers call answer
   writer = appends_more before.taken mid.taken after.taken is.taken sent.cut.taken is.writer sent.cut.writer;
   counted_all = counts;
   puts = made.puts ∙ ap (counted (is_cut answer)) is.puts ∙ sym (counted_more is_cut answers answer before.failed_puts);
-  finishes = made.finishes ∙ ap (counted (is_unfinished answer)) is.finishes ∙ sym (counted_more is_unfinished answers answer before.failed_finishes);
+  finishes = made.finishes ∙ ap (finishes_after answer) is.finishes ∙ sym (finishes_more answers answer before.finishes);
   right = λ i few. right_at i (before_or_last i (length answers) (omega (arith, few, more)));
   bytes = bytes_now;
   one = one_now;
   quiet = quiet_now;
+  known = λ j i few since. known_at j i (least_or_last i (length answers) (omega (arith, few, more))) since;
   holds = λ n opened few begin. record {
     moments = λ i from until. moment_at n opened begin i from (before_or_last i (length answers) (omega (arith, until, more)));
-    cheap = λ i from until. cheap_at n opened begin i from (before_or_last i (length answers) (omega (arith, until, more)));
+    cheap = λ j i from until since. cheap_at n opened begin i from (before_or_last i (length answers) (omega (arith, until, more))) (known_at j i (inl (omega (arith, until, more))) since);
+    cheap_where_known = λ i from until. cheap_at n opened begin i from (before_or_last i (length answers) (omega (arith, until, more)));
   };
   reached = λ n opened few begin. reached_at n opened begin (before_or_last n (length answers + 1) (omega (arith, few, more)));
 }
@@ -301,6 +357,49 @@ one_more laws acts remembers cheap profile first begun calls answers call answer
     all_taken nothing =
         none_left old.owed (omega (arith, nothing, is.counted_all, length-append is.taken old.owed, ap length is.bytes, length-append first.owed (all_bytes profile (begun_in answers))))
 
+    -- all is still known before this call, and so after it, unless it forgets
+    since_before : (j i : ℕ) → i ≤ length answers → j < i → ((k : ℕ) → j < k → k < i → forgets (drawn_at first calls (answers ++ answer ∷ []) k).desk (get_or calls k Doupdate) (get_or (answers ++ answer ∷ []) k Nothing) ≡ false)
+        → tells_sent (get_or (answers ++ answer ∷ []) j Nothing) ≡ true → IsKnownSince first calls answers j i
+    since_before j i few l kept well = record {
+      before = l;
+      well = sym (ap tells_sent (get_or_append_left answers (answer ∷ []) Nothing j (omega (arith, few, l)))) ∙ well;
+      kept = λ k after until.
+          sym (ap (forgets (drawn_at first calls answers k).desk (get_or calls k Doupdate)) (get_or_append_left answers (answer ∷ []) Nothing k (omega (arith, few, until))))
+          ∙ sym (ap (λ d. forgets d.desk (get_or calls k Doupdate) (get_or (answers ++ answer ∷ []) k Nothing)) (part k (omega (arith, few, until)))) ∙ kept k after until;
+    }
+
+    known_now : (is_known new.memory ≡ true) × (new.owed ≡ []) → IsKnownAt profile first calls (answers ++ answer ∷ []) (length answers + 1)
+    known_now held = record {
+      all = ap (λ n. is_known (remembered_at profile first calls (answers ++ answer ∷ []) n)) (sym more) ∙ sym (ap is_known memory_now) ∙ held.0;
+      nothing = subst (OwesNothing profile first) (sym (all_of answers answer))
+          (let all = ap length (sym (append-nil (is.taken ++ sent.cut.taken)) ∙ sym (ap (λ o. (is.taken ++ sent.cut.taken) ++ o) held.1) ∙ bytes_now) in
+          counts ∙ all ∙ length-append first.owed (all_bytes profile (begun_in (answers ++ answer ∷ []))));
+    }
+
+    last_forgets : (j : ℕ) → j < length answers → IsKnownSince first calls (answers ++ answer ∷ []) j (length answers + 1) → forgets old.desk call answer ≡ false
+    last_forgets j l since =
+        ap (λ d. forgets d.desk call answer) (is.drawn ∙ sym (part (length answers) (omega arith))) ∙ sym (ap (λ c. forgets (drawn_at first calls (answers ++ answer ∷ []) (length answers)).desk c answer) here)
+        ∙ sym (ap (forgets (drawn_at first calls (answers ++ answer ∷ []) (length answers)).desk (get_or calls (length answers) Doupdate)) (last_of answers answer Nothing)) ∙ since.kept (length answers) l (omega arith)
+
+    known_last : (j : ℕ) → (j < length answers) ⊎ (j ≡ length answers) → IsKnownSince first calls (answers ++ answer ∷ []) j (length answers + 1) → IsKnownAt profile first calls (answers ++ answer ∷ []) (length answers + 1)
+    known_last j (inl l) since =
+        let known = is.known j (length answers) (omega arith) (since_before j (length answers) (omega arith) l (λ k after until. since.kept k after (omega (arith, until))) since.well) in
+        known_now (stays_known old new call answer mid after made (last_forgets j l since) (ap is_known is.memory ∙ known.all) (all_taken (subst (OwesNothing profile first) all_answers known.nothing)))
+    known_last j (inr e) since =
+        let well : tells_sent answer ≡ true = sym (ap tells_sent (last_of answers answer Nothing)) ∙ sym (ap (λ n. tells_sent (get_or (answers ++ answer ∷ []) n Nothing)) e) ∙ since.well in
+        known_now ((made.well well).known, (made.well well).nothing)
+
+    known_at : (j i : ℕ) → (i ≤ length answers) ⊎ (i ≡ length answers + 1) → IsKnownSince first calls (answers ++ answer ∷ []) j i → IsKnownAt profile first calls (answers ++ answer ∷ []) i
+    known_at j i (inl few) since =
+        let known = is.known j i few (since_before j i few since.before since.kept since.well) in
+        record {
+          all = ap is_known (part_memory i few) ∙ known.all;
+          nothing = subst (OwesNothing profile first) (sym (first_of i answers answer few)) known.nothing;
+        }
+    known_at j i (inr e) since =
+        let last = subst (IsKnownSince first calls (answers ++ answer ∷ []) j) e since in
+        subst (IsKnownAt profile first calls (answers ++ answer ∷ [])) (sym e) (known_last j (before_or_last j (length answers) last.before) last)
+
     -- an update that ended well, of a screen that knows what is shown
     cheap_now : is_known old.memory ≡ true → old.owed ≡ [] → old.virtual.repaint ≡ false → tells_sent answer ≡ true → (opened state : TerminalState) → Reached profile old.memory opened (begun_in answers)
         → runs profile opened (begun_in answers) ≡ Some state → IsCheap profile state old.virtual.picture answer
@@ -319,19 +418,19 @@ one_more laws acts remembers cheap profile first begun calls answers call answer
         omega (arith, bytes, less)
 
     cheap_at : (n : ℕ) (opened : TerminalState) → MayBegin profile first calls (answers ++ answer ∷ []) n opened → (i : ℕ) → n ≤ i → (i < length answers) ⊎ (i ≡ length answers)
-        → is_known (remembered_at profile first calls (answers ++ answer ∷ []) i) ≡ true → OwesNothing profile first (take i (answers ++ answer ∷ [])) → (drawn_at first calls (answers ++ answer ∷ []) i).virtual.repaint ≡ false
+        → IsKnownAt profile first calls (answers ++ answer ∷ []) i → (drawn_at first calls (answers ++ answer ∷ []) i).virtual.repaint ≡ false
         → tells_sent (get_or (answers ++ answer ∷ []) i Nothing) ≡ true → (state : TerminalState) → runs profile opened (begun_in (take i (answers ++ answer ∷ []))) ≡ Some state
         → IsCheap profile state (drawn_at first calls (answers ++ answer ∷ []) i).virtual.picture (get_or (answers ++ answer ∷ []) i Nothing)
-    cheap_at n opened begin i from (inl l) known nothing paint well state run =
+    cheap_at n opened begin i from (inl l) at paint well state run =
         let few : take i (answers ++ answer ∷ []) ≡ take i answers = first_of i answers answer (omega (arith, l)) in
         let drawn : drawn_at first calls (answers ++ answer ∷ []) i ≡ drawn_at first calls answers i = part i (omega (arith, l)) in
         let told : get_or (answers ++ answer ∷ []) i Nothing ≡ get_or answers i Nothing = get_or_append_left answers (answer ∷ []) Nothing i l in
         let held = is.holds n opened (omega (arith, from, l)) (begin_before n opened (omega (arith, from, l)) begin) in
         subst (λ d. IsCheap profile state d.virtual.picture (get_or (answers ++ answer ∷ []) i Nothing)) (sym drawn)
         (subst (IsCheap profile state (drawn_at first calls answers i).virtual.picture) (sym told)
-        (held.cheap i from l (sym (ap is_known (part_memory i (omega (arith, l)))) ∙ known) (subst (OwesNothing profile first) few nothing) (sym (ap (λ d. d.virtual.repaint) drawn) ∙ paint) (sym (ap tells_sent told) ∙ well) state
+        (held.cheap_where_known i from l (record { all = sym (ap is_known (part_memory i (omega (arith, l)))) ∙ at.all; nothing = subst (OwesNothing profile first) few at.nothing }) (sym (ap (λ d. d.virtual.repaint) drawn) ∙ paint) (sym (ap tells_sent told) ∙ well) state
         (sym (ap (λ a. runs profile opened (begun_in a)) few) ∙ run)))
-    cheap_at n opened begin i from (inr e) known nothing paint well state run =
+    cheap_at n opened begin i from (inr e) at paint well state run =
         let few : take i (answers ++ answer ∷ []) ≡ answers = ap (λ n. take n (answers ++ answer ∷ [])) e ∙ first_of (length answers) answers answer (omega arith) ∙ all_answers in
         let drawn : drawn_at first calls (answers ++ answer ∷ []) i ≡ drawn_of old = ap (drawn_at first calls (answers ++ answer ∷ [])) e ∙ part (length answers) (omega arith) ∙ sym is.drawn in
         let told : get_or (answers ++ answer ∷ []) i Nothing ≡ answer = ap (λ n. get_or (answers ++ answer ∷ []) n Nothing) e ∙ last_of answers answer Nothing in
@@ -339,7 +438,7 @@ one_more laws acts remembers cheap profile first begun calls answers call answer
         let reached = is.reached n opened (omega (arith, from, e)) (begin_before n opened (omega (arith, from, e)) begin) in
         subst (λ d. IsCheap profile state d.virtual.picture (get_or (answers ++ answer ∷ []) i Nothing)) (sym drawn)
         (subst (IsCheap profile state old.virtual.picture) (sym told)
-        (cheap_now (sym (ap is_known remembered) ∙ known) (all_taken (subst (OwesNothing profile first) few nothing)) (sym (ap (λ d. d.virtual.repaint) drawn) ∙ paint) (sym (ap tells_sent told) ∙ well) opened state reached
+        (cheap_now (sym (ap is_known remembered) ∙ at.all) (all_taken (subst (OwesNothing profile first) few at.nothing)) (sym (ap (λ d. d.virtual.repaint) drawn) ∙ paint) (sym (ap tells_sent told) ∙ well) opened state reached
         (sym (ap (λ a. runs profile opened (begun_in a)) few) ∙ run)))
 
     last_moment : (opened : TerminalState) → IsState (abilities profile) opened → (reached : Reached profile old.memory opened (begun_in answers))
@@ -399,7 +498,12 @@ none_made calls screen w = record {
   bytes = sym (append-nil screen.owed);
   one = omega arith;
   quiet = λ none. refl;
-  holds = λ n opened few begin. record { moments = λ i from until. absurd (omega (arith, until)); cheap = λ i from until. absurd (omega (arith, until)) };
+  known = λ j i few since. absurd (omega (arith, few, since.before));
+  holds = λ n opened few begin. record {
+    moments = λ i from until. absurd (omega (arith, until));
+    cheap = λ j i from until. absurd (omega (arith, until));
+    cheap_where_known = λ i from until. absurd (omega (arith, until));
+  };
   reached = λ n opened few begin. at_first n opened begin few;
 }
   where
@@ -426,12 +530,14 @@ session_of profile first begun calls answers screen old new is all = record {
   answered_all = all;
   counted_all = is.counted_all;
   right = is.right;
+  known = is.known;
   holds = is.holds;
 }
 
 pub made_of : (old new : ScreenState) (calls : List Call) (report : Report) (before after : WriterView) → SoFar old.profile (beginning_of old) old calls report.answers new before after → length report.answers ≡ length calls
-    → report.last_ok ≡ last_ok_after false report.answers → AreMade old new calls before after report
-made_of old new calls report before after is all last = record {
+    → report.last_ok ≡ last_ok_after false report.answers → MayBe (abilities old.profile) old.memory → AreMade old new calls before after report
+made_of old new calls report before after is all last possible = record {
+  possible = possible;
   taken = is.taken;
   writer = is.writer;
   session = session_of old.profile (beginning_of old) old calls report.answers new before after is all;

@@ -20,7 +20,7 @@ use Rattle.scr_virtual.specs.VirtualViews.{VirtualView, blank_virtual, settled}
 use Rattle.scr_virtual.specs.Pairs.{set_pair_call, set_pair_of_call}
 use Rattle.scr_virtual.specs.Taking.{take_pad_call, take_window_call}
 use Rattle.scr_windows.specs.Calls.Reading.{screen_rows_answer, size_answer}
-use Rattle.scr_memory.specs.Memories.{Agrees, IsDisturbance, MemoryView, all_followed, disturbed, is_known, remembered, unknown}
+use Rattle.scr_memory.specs.Memories.{Agrees, IsDisturbance, MayBe, MemoryView, all_followed, disturbed, is_known, remembered, unknown}
 use Rattle.scr_plan.specs.Plans.{IsPlan}
 use Rattle.scr_plan.specs.Repaints.{joined_of}
 use Rattle.scr_keys.specs.Tables.{too_long}
@@ -37,7 +37,7 @@ use Rattle.screen_sessions.specs.Calls.{answered, is_refusal, takes_memory, wind
 use Rattle.curses.specs.Refreshing.{redraw_lines_call, redraw_window_call}
 use Rattle.curses.specs.ScreenStates.{ScreenState}
 use Rattle.curses.specs.Updates.{BeginsPlan, IsOfOneText, memory_after}
-use Rattle.curses.specs.Writers.{WriterView, counted}
+use Rattle.curses.specs.Writers.{Finishes, WriterView, counted, finished, finished_after}
 
 -- ---- the fold of the calls
 
@@ -205,15 +205,22 @@ abbrev pub is_cut : Answer → Bool
 is_cut (Failed (Write begun sent kind)) = true
 is_cut answer = false
 
--- An update that ended with a failed flush.
-abbrev pub is_unfinished : Answer → Bool
-is_unfinished (Failed (Flush begun sent kind)) = true
-is_unfinished answer = false
-
 -- A count, raised by one for each answer of the given kind.
 abbrev pub counted_in : (Answer → Bool) → List Answer → ℕ → ℕ
 counted_in kind [] count = count
 counted_in kind (answer ∷ answers) count = counted_in kind answers (counted (kind answer) count)
+
+-- The writer's finishes after an update: one more after a successful one in which it accepted something, and one more
+-- that failed after one that ended with a failed flush.
+abbrev pub finishes_after : Answer → Finishes → Finishes
+finishes_after (Sent sent) finishes = finished_after sent.bytes finishes
+finishes_after (Failed (Flush begun sent kind)) finishes = finished true finishes
+finishes_after answer finishes = finishes
+
+-- The same after several calls.
+abbrev pub finishes_in : List Answer → Finishes → Finishes
+finishes_in [] finishes = finishes
+finishes_in (answer ∷ answers) finishes = finishes_in answers (finishes_after answer finishes)
 
 -- ---- the promise
 
@@ -242,6 +249,12 @@ pub record Moment (profile : ProfileView) (opened : TerminalState) (before : Lis
 -- This update took no more bytes than the joined repaint does when the terminal's whole state, `now`, is known.
 abbrev pub IsCheap : ProfileView → TerminalState → PictureView → Answer → Type 0
 IsCheap profile now picture answer = count_of answer ≤ length (all_bytes profile (joined_of profile (remembered profile.rows profile.columns now) picture))
+
+-- Less may be known of the terminal after the call: a write or a flush failed, or a redraw call was accepted.
+abbrev pub forgets : DeskView → Call → Answer → Bool
+forgets desk call (Failed (Write begun sent kind)) = true
+forgets desk call (Failed (Flush begun sent kind)) = true
+forgets desk call answer = is_some (marked_by desk call)
 
 -- ---- a session
 
@@ -276,6 +289,18 @@ remembered_at profile first calls answers n = remembered_after profile first.dra
 abbrev pub OwesNothing : ProfileView → Beginning → List Answer → Type 0
 OwesNothing profile first answers = count_in answers ≡ length first.owed + length (all_bytes profile (begun_in answers))
 
+-- Call j was a successful update, and since then, before call i, no write and no flush failed and no redraw call was
+-- accepted.
+pub record IsKnownSince (first : Beginning) (calls : List Call) (answers : List Answer) (j i : ℕ) : Type 0 where
+  pub before : j < i
+  pub well : tells_sent (slice_index_or answers j Nothing) ≡ true
+  pub kept : (k : ℕ) → j < k → k < i → forgets (drawn_at first calls answers k).desk (slice_index_or calls k Doupdate) (slice_index_or answers k Nothing) ≡ false
+
+-- All that the terminal shows is known before call i, and nothing is owed.
+pub record IsKnownAt (profile : ProfileView) (first : Beginning) (calls : List Call) (answers : List Answer) (i : ℕ) : Type 0 where
+  pub all : is_known (remembered_at profile first calls answers i) ≡ true
+  pub nothing : OwesNothing profile first (take i answers)
+
 -- The terminal may be in the state `opened` after n calls, none of them an update: the state agrees with what is known
 -- then. In rows that these calls marked it may differ, and so may cursor and pen, since others may have written there.
 pub record MayBegin (profile : ProfileView) (first : Beginning) (calls : List Call) (answers : List Answer) (n : ℕ) (opened : TerminalState) : Type 0 where
@@ -288,10 +313,14 @@ pub record HoldsFrom (profile : ProfileView) (first : Beginning) (calls : List C
   pub moments : (i : ℕ) → n ≤ i → i < length answers
       → Moment profile opened first.owed (drawn_at first calls answers (i + 1)).virtual.picture (begun_in (take (i + 1) answers)) (take (count_in (take (i + 1) answers)) taken)
       (tells_sent (slice_index_or answers i Nothing))
-  -- Where the whole state is known, nothing is owed and no repaint was requested, a successful update sends no more
-  -- than the joined repaint.
-  pub cheap : (i : ℕ) → n ≤ i → i < length answers → is_known (remembered_at profile first calls answers i) ≡ true → OwesNothing profile first (take i answers)
-      → (drawn_at first calls answers i).virtual.repaint ≡ false → tells_sent (slice_index_or answers i Nothing) ≡ true → (now : TerminalState) → runs profile opened (begun_in (take i answers)) ≡ Some now
+  -- A successful update after an earlier one sends no more than the joined repaint, if no write and no flush failed and
+  -- no redraw call was accepted in between, and no repaint was requested.
+  pub cheap : (j i : ℕ) → n ≤ i → i < length answers → IsKnownSince first calls answers j i → (drawn_at first calls answers i).virtual.repaint ≡ false
+      → tells_sent (slice_index_or answers i Nothing) ≡ true → (now : TerminalState) → runs profile opened (begun_in (take i answers)) ≡ Some now
+      → IsCheap profile now (drawn_at first calls answers i).virtual.picture (slice_index_or answers i Nothing)
+  -- So it is for the first update too, if all was known when the session began.
+  pub cheap_where_known : (i : ℕ) → n ≤ i → i < length answers → IsKnownAt profile first calls answers i → (drawn_at first calls answers i).virtual.repaint ≡ false
+      → tells_sent (slice_index_or answers i Nothing) ≡ true → (now : TerminalState) → runs profile opened (begun_in (take i answers)) ≡ Some now
       → IsCheap profile now (drawn_at first calls answers i).virtual.picture (slice_index_or answers i Nothing)
 
 -- A session: each answer is right. Whatever state the terminal may be in at the start, or after any number of first
@@ -301,6 +330,9 @@ pub record IsSession (profile : ProfileView) (first : Beginning) (calls : List C
   pub counted_all : count_in answers ≡ length taken
   pub right : (i : ℕ) → i < length answers
       → IsAnswer profile (remembered_at profile first calls answers i) (drawn_at first calls answers i) (slice_index_or calls i Doupdate) (slice_index_or answers i Nothing)
+  -- After a successful update all that the terminal shows is known and nothing is owed, until a write or a flush fails
+  -- or a redraw call is accepted.
+  pub known : (j i : ℕ) → i ≤ length answers → IsKnownSince first calls answers j i → IsKnownAt profile first calls answers i
   pub holds : (n : ℕ) (opened : TerminalState) → n ≤ length answers → MayBegin profile first calls answers n opened → HoldsFrom profile first calls answers taken n opened
 
 -- Whether the last update succeeded; false before the first one.
@@ -314,16 +346,18 @@ abbrev pub last_ok_after : Bool → List Answer → Bool
 last_ok_after before [] = before
 last_ok_after before (answer ∷ answers) = last_ok_after (ended_well before answer) answers
 
--- These calls were made on a screen, and the report gives their answers. The writer's failed puts and finishes are
--- exactly the updates that ended with a failed write or flush. The screen then holds what the calls make of it, and
+-- These calls were made on a screen, and the report gives their answers. The writer's failed puts are exactly the
+-- updates that ended with a failed write, and it was finished exactly after the others in which it accepted something.
+-- What was known of the terminal at the start was possible on it. The screen then holds what the calls make of it, and
 -- every state that the terminal can have reached agrees with what is known of it.
 pub record AreMade (old new : ScreenState) (calls : List Call) (before after : WriterView) (report : Report) : Type 0 where
+  pub possible : MayBe (abilities old.profile) old.memory
   pub taken : List ℕ
   pub writer : Appends before.taken after.taken taken
   pub session : IsSession old.profile (beginning_of old) calls report.answers taken
   pub last : report.last_ok ≡ last_ok_after false report.answers
   pub puts : after.failed_puts ≡ counted_in is_cut report.answers before.failed_puts
-  pub finishes : after.failed_finishes ≡ counted_in is_unfinished report.answers before.failed_finishes
+  pub finishes : after.finishes ≡ finishes_in report.answers before.finishes
   pub profile : new.profile ≡ old.profile
   pub keys : new.keys ≡ old.keys
   pub opening : new.opening ≡ old.opening
@@ -347,7 +381,7 @@ pub record IsReportAs (asked : Opening) (entry : Description) (size : Option Siz
   pub any : (opened : TerminalState) → IsState (abilities profile) opened → HoldsFrom profile (fresh_beginning profile) calls report.answers taken 0 opened
   pub last : report.last_ok ≡ last_ok_after false report.answers
   pub puts : new.failed_puts ≡ counted_in is_cut report.answers old.failed_puts
-  pub finishes : new.failed_finishes ≡ counted_in is_unfinished report.answers old.failed_finishes
+  pub finishes : new.finishes ≡ finishes_in report.answers old.finishes
 
 -- The same if nothing is asked for.
 abbrev pub IsReport : Description → Option Size → List Call → WriterView → WriterView → Report → Type 0

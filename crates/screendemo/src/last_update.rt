@@ -39,6 +39,7 @@ pub fn open(alloc: Global, charset: Charset, size: Size) -> Result<LastUpdate, N
     let opening = Opening {
         charset,
         keys: KeySet::Table,
+        is_larger: false,
     };
     let screen = Screen::open_as(alloc, &entry, Some(size), opening).map_err(|_| NoMemory)?;
     Ok(LastUpdate {

@@ -1,7 +1,7 @@
 -- The cursor of a terminal: what a program asks of it, what is known of it, and what is sent for that.
 use Rattle.std.specs.Prelude.{◌≡◌, ℕ, ◌<◌, ◌||◌, not, Bool, true, false, List, [], length, take, Option, Some, None}
 use Rattle.std.specs.Io.KnownBytes.{Appends}
-use Rattle.curses.specs.Writers.{WriterView, counted}
+use Rattle.curses.specs.Writers.{IsFinishFailed, IsFinished, WriterView, counted}
 use Rattle.curses.specs.declared.faults.SendFault.{SendFault}
 use Rattle.curses.specs.declared.faults.SendFault.TheVariants.{Flush, Write}
 use Rattle.ti_caps.specs.Description.{Description}
@@ -50,11 +50,12 @@ abbrev pub shown_after : Option (List ℕ × List ℕ) → Option Bool → Bool 
 shown_after None shown wanted = shown
 shown_after (Some texts) shown wanted = Some wanted
 
--- A writer took a text whole, and no failure was counted.
+-- A writer took a text whole and was finished after it, and no failure was counted; of an empty text it was asked
+-- nothing.
 pub record IsSent (old new : WriterView) (text : List ℕ) : Type 0 where
   pub taken : Appends old.taken new.taken text
   pub puts : new.failed_puts ≡ old.failed_puts
-  pub finishes : new.failed_finishes ≡ old.failed_finishes
+  pub finished : IsFinished (length text) old new
 
 -- How many bytes a fault says that the writer took.
 abbrev pub sent_by : SendFault → ℕ
@@ -65,9 +66,9 @@ sent_by (Flush sent kind) = sent
 -- of them.
 abbrev pub IsCounted : WriterView → WriterView → ℕ → SendFault → Type 0
 IsCounted old new size (Write sent kind) =
-    (sent < size) × (new.failed_puts ≡ counted true old.failed_puts) × (new.failed_finishes ≡ old.failed_finishes)
+    (sent < size) × (new.failed_puts ≡ counted true old.failed_puts) × (new.finishes ≡ old.finishes)
 IsCounted old new size (Flush sent kind) =
-    (sent ≡ size) × (new.failed_puts ≡ old.failed_puts) × (new.failed_finishes ≡ counted true old.failed_finishes)
+    (sent ≡ size) × (new.failed_puts ≡ old.failed_puts) × IsFinishFailed old new
 
 -- A writer took as many bytes of a text as the fault says, and that failure was counted.
 pub record IsFailed (old new : WriterView) (text : List ℕ) (fault : SendFault) : Type 0 where

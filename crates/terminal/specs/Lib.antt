@@ -4,3 +4,4 @@ pub mod Inputs
 pub mod Lines
 pub mod Sizes
 pub mod Locales
+pub mod Openings

@@ -121,11 +121,14 @@ fn is_due(shown: Option<bool>, wanted: bool) -> bool
     shown != Some(wanted)
 }
 
-// Sends a text whole, and flushes.
+// Sends a text whole, and flushes; nothing if it is empty.
 fn send<W: Counted>(text: &[u8], out: &mut W) -> Result<(), SendFault>
     ensures ok { OnOk result (IsSent (W.told out.old) (W.told out.new) text.now) }
     ensures err { IfErr result (IsFailed (W.told out.old) (W.told out.new) text.now) }
 {
+    if text.is_empty() {
+        return Ok(());
+    }
     let mut sent = 0;
     while sent < text.len() {
         match out.put(&text[sent..]) {

@@ -41,6 +41,7 @@ fn opening_in(locale: &str) -> Opening
     Opening {
         charset: charset_of(locale),
         keys: KeySet::All,
+        is_larger: false,
     }
 }
 

@@ -1,5 +1,8 @@
 //! Opening the screen of the terminal that a program runs on.
 
+ghost use Rattle.std.specs.Prelude.{◌≡◌, ◌||◌};
+ghost use Rattle.terminal.specs.Openings.{may_be_larger};
+
 use crate::cursors::Cursor;
 use crate::faults::TerminalFault;
 use crate::keyboards::Keyboard;
@@ -8,7 +11,7 @@ use crate::locales::opening_of_locale;
 use crate::outputs::TerminalOutput;
 use crate::received::Received;
 use crate::screens::TerminalScreen;
-use curses::{AdaptedEntry, Device, Entry, OpenFault, Opening};
+use curses::{AdaptedEntry, Device, Entry, OpenFault, Opening, Size};
 use std::alloc::Global;
 use std::env;
 use std::env::VarError;
@@ -58,7 +61,8 @@ impl TerminalScreen {
         let cursor = Cursor::new(rt.alloc(), &entry)?;
         let out = device(rt.alloc(), line.output(rt))?;
         let entry = AdaptedEntry::of(entry);
-        let screen = entry.open(rt.alloc(), line.size(), opening)?;
+        let asked = opening_on(opening, line.size());
+        let screen = entry.open(rt.alloc(), line.size(), asked)?;
         Ok(started(TerminalScreen {
             entry,
             opening,
@@ -72,6 +76,28 @@ impl TerminalScreen {
             is_started: false,
             cursor,
         }))
+    }
+}
+
+/// The opening of a screen of this size as is asked for, on the terminal of the program. A screen of the most rows or
+/// columns that there can be may be smaller than its terminal, and so may one of the entry's own size (`None`).
+pub(crate) fn opening_on(opening: Opening, size: Option<Size>) -> Opening
+    ensures { result ≡ record opening { is_larger = opening.is_larger || may_be_larger size } }
+{
+    Opening {
+        charset: opening.charset,
+        keys: opening.keys,
+        is_larger: opening.is_larger || may_be_larger(size),
+    }
+}
+
+// Whether a screen of this size may be smaller than its terminal.
+fn may_be_larger(size: Option<Size>) -> bool
+    ensures { result ≡ may_be_larger size }
+{
+    match size {
+        Some(size) => size.rows == Size::MOST || size.columns == Size::MOST,
+        None => true,
     }
 }
 

@@ -6,6 +6,7 @@ use crate::faults::TerminalFault;
 use crate::input::Input;
 use crate::keyboards::Keyboard;
 use crate::lines::TerminalLine;
+use crate::openings::opening_on;
 use crate::outputs::TerminalOutput;
 use crate::received::Received;
 use curses::{AdaptedEntry, Device, Key, OpenFault, Opening, Screen, Sent, Size, Typed, keys};
@@ -311,7 +312,7 @@ fn reopen(
     opening: Opening,
     screen: &mut Screen,
 ) -> Result<(), OpenFault> {
-    match entry.open(alloc, Some(size), opening) {
+    match entry.open(alloc, Some(size), opening_on(opening, Some(size))) {
         Ok(opened) => {
             put(screen, opened);
             Ok(())

@@ -2,6 +2,7 @@ pub mod AdaptedLaws
 pub mod BucketLaws
 pub mod BundledLaws
 pub mod EntryLaws
+pub mod MovesLaws
 pub mod NamesLaws
 pub mod Once
 pub mod StandardLaws

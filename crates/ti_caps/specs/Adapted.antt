@@ -1,11 +1,12 @@
 -- Entries with which more can be shown: with colours in place of the attributes that exclude them, and without the last
 -- column where a character there would scroll (terminfo(5), 'Color Handling', 'Basic Capabilities').
-use Rattle.std.specs.Prelude.{ℕ, ◌-◌, ◌==◌, ◌&&◌, Bool, false, not, nat_eq, nat_le, bit_and, List, [], ◌∷◌, codes, map, filter, Option, Some, None, is_some, unwrap_or, slice_set, if◌then◌else◌}
-use Rattle.std.specs.List.{starts_with}
+use Rattle.std.specs.Prelude.{ℕ, ◌≡◌, ◌-◌, ◌==◌, ◌&&◌, Bool, true, false, not, nat_eq, nat_le, bit_and, List, [], ◌∷◌, codes, map, filter, Option, Some, None, is_some, unwrap_or, slice_set, if◌then◌else◌}
+use Rattle.std.specs.List.{list_any, starts_with}
+use Rattle.ti_caps.specs.Bundled.{IsBundled}
 use Rattle.ti_caps.specs.Description.{Description, flag_at, number_at, text_at}
 use Rattle.ti_caps.specs.Names.{first_name}
 use Rattle.ti_caps.specs.Settings.{all_set}
-use Rattle.ti_caps.specs.declared.slots.TheConstants.{AM, XENL, COLS, COLORS, PAIRS, NCV, BLINK, BOLD, DIM, INVIS, SMSO, SMUL, SGR0, SETAF, SETAB, OP, ICH1, ICH, DCH1, DCH}
+use Rattle.ti_caps.specs.declared.slots.TheConstants.{AM, XENL, COLS, COLORS, PAIRS, NCV, BLINK, BOLD, DIM, INVIS, SMSO, SMUL, SGR0, SETAF, SETAB, OP, ICH1, ICH, DCH1, DCH, IL1, IL, DL1, DL, IND, RI, INDN, RIN}
 
 -- The texts, those at these positions absent.
 abbrev pub texts_without : List ℕ → List (Option (List ℕ)) → List (Option (List ℕ))
@@ -86,3 +87,26 @@ without_last_column d =
       texts = texts_without texts_at_the_end d.texts;
     }
     else d
+
+-- ---- without moves
+
+-- The texts that insert or delete lines or characters, or scroll.
+abbrev pub moving_texts : List ℕ
+moving_texts =
+    IL1.0 ∷ IL.0 ∷ DL1.0 ∷ DL.0 ∷ ICH1.0 ∷ ICH.0 ∷ DCH1.0 ∷ DCH.0 ∷ IND.0 ∷ RI.0 ∷ INDN.0 ∷ RIN.0 ∷ []
+
+-- The text at this position is one of them.
+abbrev pub is_moving : ℕ → Bool
+is_moving slot = list_any (λ s. s == slot) moving_texts
+
+-- The entry without them, for a screen that is smaller than its terminal.
+unfoldable pub without_moves : Description → Description
+without_moves d = record d { texts = texts_without moving_texts d.texts }
+
+-- These texts are absent then, and all others are as they were. The bundled entry has none of them.
+pub record MovesAreLeftOut : Type 0 where
+  pub flags : (d : Description) → (without_moves d).flags ≡ d.flags
+  pub numbers : (d : Description) → (without_moves d).numbers ≡ d.numbers
+  pub absent : (d : Description) (slot : ℕ) → is_moving slot ≡ true → text_at (without_moves d) slot ≡ None
+  pub others : (d : Description) (slot : ℕ) → is_moving slot ≡ false → text_at (without_moves d) slot ≡ text_at d slot
+  pub bundled : (d : Description) → IsBundled d → IsBundled (without_moves d)

@@ -2,14 +2,14 @@
 //! column.
 
 ghost use Rattle.std.specs.Prelude.{◌≡◌, ◌<◌, if◌then◌else◌, is_some, slice_set, None, []};
-ghost use Rattle.ti_caps.specs.Adapted.{attribute_texts, can_colour, colours_first, excluded, excluded_texts, is_combining, is_excluded, is_number_from, one_less, texts_without, with_colours, without_last_column, wraps_at_once};
+ghost use Rattle.ti_caps.specs.Adapted.{MovesAreLeftOut, attribute_texts, can_colour, colours_first, excluded, excluded_texts, is_combining, is_excluded, is_number_from, one_less, texts_without, with_colours, without_last_column, without_moves, wraps_at_once};
 ghost use Rattle.ti_caps.specs.Description.{number_at, text_at};
 
 use crate::entry::Entry;
 use crate::names::first_name;
 use crate::slots::{
-    AM, BLINK, BOLD, COLORS, COLS, DCH, DCH1, DIM, ICH, ICH1, INVIS, NCV, OP, PAIRS, SETAB, SETAF,
-    SGR0, SMSO, SMUL, XENL,
+    AM, BLINK, BOLD, COLORS, COLS, DCH, DCH1, DIM, DL, DL1, ICH, ICH1, IL, IL1, IND, INDN, INVIS,
+    NCV, OP, PAIRS, RI, RIN, SETAB, SETAF, SGR0, SMSO, SMUL, XENL,
 };
 use crate::table::Slot;
 
@@ -69,6 +69,28 @@ impl Entry {
         self.leave_out(DCH);
         self.leave_out(ICH);
         true
+    }
+
+    /// Takes the texts from an entry that insert or delete lines or characters, or scroll, for a screen that is smaller
+    /// than its terminal: there the last line of the screen is not the one at which the terminal scrolls, and what is
+    /// deleted brings in lines and columns from beyond the screen. terminfo(5), 'Insert/Delete Line', 'Insert/Delete
+    /// Character'.
+    #[tactic(auto, unfolding(crate::specs::Adapted::without_moves))]
+    pub fn without_moves(&mut self)
+        ensures { self.new ≡ without_moves self.old }
+    {
+        self.leave_out(IL1);
+        self.leave_out(IL);
+        self.leave_out(DL1);
+        self.leave_out(DL);
+        self.leave_out(ICH1);
+        self.leave_out(ICH);
+        self.leave_out(DCH1);
+        self.leave_out(DCH);
+        self.leave_out(IND);
+        self.leave_out(RI);
+        self.leave_out(INDN);
+        self.leave_out(RIN);
     }
 
     // Whether nothing but `ncv` can be missing for colours.
@@ -131,6 +153,13 @@ impl Entry {
     {
         let _ = self.set_text(slot, None);
     }
+}
+
+/// What `Entry::without_moves` leaves: none of the texts that it takes out, and all else as it was; the bundled entry is
+/// without them.
+pub fn moves_are_left_out()
+    ensures { MovesAreLeftOut }
+{
 }
 
 // Whether an attribute is among those of `ncv`.

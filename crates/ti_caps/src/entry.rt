@@ -174,6 +174,44 @@ impl Entry {
     }
 }
 
+/// A copy has memory of its own, and is made only where there is enough.
+impl Clone for Entry {
+    ghost use Rattle.std.specs.Prelude.{◌≡◌};
+
+    ghost is_clone = { λ entry copy. copy ≡ entry };
+
+    fn clone(&self) -> Result<Entry, AllocError> {
+        let alloc = *self.texts.allocator();
+        let names = Bytes(Vec::from_slice(alloc, self.names())?);
+        let texts = copied(alloc, &self.texts)?;
+        Ok(Entry {
+            names,
+            flags: self.flags,
+            numbers: self.numbers,
+            texts,
+        })
+    }
+}
+
+fn copied(alloc: Global, texts: &[Option<Bytes>]) -> Result<Vec<Option<Bytes>>, AllocError>
+    ensures { IfOk result (λ copy. copy.items ≡ texts.now) }
+{
+    let mut copy = Vec::with_capacity(alloc, texts.len())?;
+    for text in texts {
+        copy.push(copied_text(alloc, text)?)?;
+    }
+    Ok(copy)
+}
+
+fn copied_text(alloc: Global, text: &Option<Bytes>) -> Result<Option<Bytes>, AllocError>
+    ensures { IfOk result (λ copy. copy ≡ text.now) }
+{
+    match text {
+        Some(bytes) => Ok(Some(Bytes(Vec::from_slice(alloc, bytes)?))),
+        None => Ok(None),
+    }
+}
+
 fn no_texts(alloc: Global) -> Result<Vec<Option<Bytes>>, AllocError>
     ensures { IfOk result (λ v. v.items ≡ replicate 512 None) }
 {

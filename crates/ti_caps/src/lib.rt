@@ -12,6 +12,7 @@ pub mod slots;
 pub mod standard;
 mod table;
 
+pub use adapted::moves_are_left_out;
 pub use buckets::find_name;
 pub use bundle::bundled;
 pub use bytes::Bytes;

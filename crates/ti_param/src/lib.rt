@@ -30,6 +30,6 @@ pub use laws::{
     text_has_one_tree, text_has_tree_or_fault, text_is_bounded, text_is_parsed, text_writes_itself,
 };
 pub use out_of_memory::NoMemory;
-pub use padding::strip_padding;
+pub use padding::{strip_padding, stripped_length};
 pub use programs::Program;
 pub use variables::Vars;

@@ -2,6 +2,7 @@
 
 ghost use Rattle.std.specs.Prelude.{◌≡◌, ◌+◌, ◌≤◌, length, IfOk, slice_index};
 ghost use Rattle.ti_param.specs.Padding.{Stripped};
+ghost use Rattle.ti_param.specs.Stripped.{stripped};
 ghost use Rattle.ti_param.specs.Code.Padding.{digits_at, point_at, marks_at, padding_length};
 
 use out_of_memory::NoMemory;
@@ -37,6 +38,24 @@ fn one_pass(alloc: Global, bytes: &[u8]) -> Result<Vec<u8>, AllocError>
         }
     }
     Ok(text)
+}
+
+/// How many bytes `strip_padding` leaves of a text. Takes no memory.
+pub fn stripped_length(bytes: &[u8]) -> usize
+    ensures { result ≡ length (stripped bytes.now) }
+{
+    let mut count = 0;
+    let mut index = 0;
+    while index < bytes.len() {
+        let passed = padding_length(&bytes[index..]);
+        if passed == 0 {
+            count += 1;
+            index += 1;
+        } else {
+            index += passed;
+        }
+    }
+    count
 }
 
 // The length of the padding at the beginning of a text, or 0.

@@ -1,6 +1,7 @@
 //! Calls that read: sizes, cells, cursors, touched lines, and what is lent. None of them changes anything.
 ghost use Rattle.std.specs.Prelude.{◌≡◌, ◌≤◌, ℕ, length, IfOk, MatchResult, Ok, Err};
-ghost use Rattle.scr_term.specs.Operations.Profiles.{IsProfile, has_colours, shown_set};
+ghost use Rattle.scr_memory.specs.Memories.{MayBe};
+ghost use Rattle.scr_term.specs.Operations.Profiles.{IsProfile, abilities, has_colours, shown_set};
 ghost use Rattle.scr_windows.specs.Changes.{index_of};
 ghost use Rattle.scr_windows.specs.DeskViews.{window_at};
 ghost use Rattle.scr_windows.specs.Calls.Reading.{cell_at_answer, cursor_answer, line_touched_answer, nth_answer, origin_answer, row_answer, size_answer, window_answer, window_touched_answer};
@@ -15,6 +16,7 @@ impl Screen {
         ensures rows { result.rows ≡ self.now.desk.rows }
         ensures columns { result.columns ≡ self.now.desk.columns }
         ensures profile { IsProfile self.now.profile }
+        ensures possible { MayBe (abilities self.now.profile) self.now.memory }
     {
         let _profile = self.profile.size();
         self.desk.screen()

@@ -241,6 +241,12 @@ pub record IsSuitable (entry : Description) : Type 0 where
   pub suitable : unsuitable_fault entry ≡ None
   pub margin : margin_fault entry ≡ None
 
+-- The entry sends something for `cup` and `clear`, and the screen has a size, from 1 to 500 rows and columns. This too is
+-- decided before any allocation.
+pub record IsEquipped (entry : Description) (size : Option Size) : Type 0 where
+  pub texts : missing_fault entry ≡ None
+  pub sized : size_fault (screen_size entry size) ≡ None
+
 -- The profile of the bundled entry on a screen of some valid size.
 pub record IsEcma48 (profile : ProfileView) : Type 0 where
   pub size : IsSize profile.rows profile.columns

@@ -3,7 +3,7 @@ ghost use Rattle.std.specs.Prelude.{◌≡◌, ◌≢◌, ◌≤◌, ◌++◌, �
 ghost use Rattle.ti_caps.specs.Description.{text_at};
 ghost use Rattle.ti_param.specs.Parsed.{parsed};
 ghost use Rattle.ti_param.specs.Tree.{depth};
-ghost use Rattle.scr_term.specs.Operations.Admission.{IsAdmitted, IsAdmittedAs, IsBundledAdmitted, IsEcma48, IsJudged, IsRefused, IsSuitable, bad_text, first_where, is_bad_string, is_missing, is_over_bound, is_present, margin_fault, missing_fault, named_text, planned_program, program_at, screen_size, sent_at, sent_text, size_fault, unsuitable_fault};
+ghost use Rattle.scr_term.specs.Operations.Admission.{IsAdmitted, IsAdmittedAs, IsBundledAdmitted, IsEcma48, IsEquipped, IsJudged, IsRefused, IsSuitable, bad_text, first_where, is_bad_string, is_missing, is_over_bound, is_present, margin_fault, missing_fault, named_text, planned_program, program_at, screen_size, sent_at, sent_text, size_fault, unsuitable_fault};
 ghost use Rattle.scr_term.specs.Operations.Capabilities.{slot_of};
 ghost use Rattle.scr_term.specs.Code.Admission.{Judges, program_in};
 
@@ -14,7 +14,9 @@ use crate::{Profile, ProfileFault};
 use scr_cells::{Charset, NoMemory, Size};
 use std::alloc::Global;
 use ti_caps::{Entry, Kind, Slot, bundled, slots};
-use ti_param::{ParamFault, Program, padding_is_removed, strip_padding, text_is_parsed};
+use ti_param::{
+    ParamFault, Program, padding_is_removed, strip_padding, stripped_length, text_is_parsed,
+};
 
 // The capabilities of terminals that print or overstrike, or cannot show cells independently.
 const UNSUITABLE: [(Kind, Slot); 9] = [
@@ -53,7 +55,7 @@ impl Profile {
     ///    more than 20 values. Only capabilities that operations send are checked, in the order of
     ///    their positions.
     /// 7. `LongString`: the text of such a capability could give more than 1,024 bytes.
-    /// 8. `NoMemory`: an allocation failed, whatever refusal would have followed. The first two are
+    /// 8. `NoMemory`: an allocation failed, whatever refusal would have followed. The first five are
     ///    checked before any allocation.
     ///
     /// Nothing is refused for a text that inserts or deletes lines or characters, scrolls or repeats a
@@ -66,6 +68,7 @@ impl Profile {
         ensures err { IfErr result (IsRefused entry.now size) }
         ensures suitable { IfOk result (λ _. IsSuitable entry.now) }
         ensures memory { IsErrOf result ProfileFault.NoMemory → IsSuitable entry.now }
+        ensures equipped { IsErrOf result ProfileFault.NoMemory → IsEquipped entry.now size }
     {
         Profile::admit_as(alloc, entry, size, Charset::Ascii)
     }
@@ -82,10 +85,11 @@ impl Profile {
         ensures err { IfErr result (IsRefused entry.now size) }
         ensures suitable { IfOk result (λ _. IsSuitable entry.now) }
         ensures memory { IsErrOf result ProfileFault.NoMemory → IsSuitable entry.now }
+        ensures equipped { IsErrOf result ProfileFault.NoMemory → IsEquipped entry.now size }
     {
         is_suitable(entry)?;
         keeps_its_margin(entry)?;
-        has_needed_texts(alloc, entry)?;
+        has_needed_texts(entry)?;
         let size = screen_size(entry, size)?;
         let programs = programs(alloc, entry, &Capability::EACH)?;
         let Ok(programs) = with_spares(alloc, entry, programs, &Capability::SPARE) else {
@@ -160,32 +164,36 @@ fn keeps_its_margin(entry: &Entry) -> Result<(), ProfileFault>
 }
 
 // Refuses an entry that lacks a needed text.
-fn has_needed_texts(alloc: Global, entry: &Entry) -> Result<(), ProfileFault>
-    ensures { Judges result (missing_fault entry.now) }
+fn has_needed_texts(entry: &Entry) -> Result<(), ProfileFault>
+    ensures judged { Judges result (missing_fault entry.now) }
+    ensures lasting { IfErr result (λ fault. fault ≢ ProfileFault.NoMemory) }
 {
-    let Ok(missing) = first_missing(alloc, entry, &NEEDED) else {
-        return Err(ProfileFault::NoMemory);
-    };
-    match missing {
+    match first_missing(entry, &NEEDED) {
         Some(capability) => Err(ProfileFault::Missing((Kind::Text, capability.slot()))),
         None => Ok(()),
     }
 }
 
 // The first of these capabilities for which nothing would be sent.
-fn first_missing(
-    alloc: Global,
-    entry: &Entry,
-    capabilities: &[Capability],
-) -> Result<Option<Capability>, NoMemory>
-    ensures { IfOk result (λ missing. missing ≡ first_where (is_missing entry.now) capabilities.now) }
+fn first_missing(entry: &Entry, capabilities: &[Capability]) -> Option<Capability>
+    ensures { result ≡ first_where (is_missing entry.now) capabilities.now }
 {
     for capability in capabilities {
-        if sent_text(alloc, entry, *capability)?.is_none() {
-            return Ok(Some(*capability));
+        if is_missing(entry, *capability) {
+            return Some(*capability);
         }
     }
-    Ok(None)
+    None
+}
+
+// Whether nothing would be sent for a capability: it has no text, or one of padding alone.
+fn is_missing(entry: &Entry, capability: Capability) -> bool
+    ensures { result ≡ is_missing entry.now capability }
+{
+    match entry.text(capability.slot()) {
+        Some(text) => stripped_length(text) == 0,
+        None => true,
+    }
 }
 
 // What the terminal is sent for a capability: its text without padding; `None` if that is empty.
@@ -220,6 +228,7 @@ pub fn sent_at(alloc: Global, entry: &Entry, slot: Slot) -> Result<Option<Vec<u8
 // The size of the screen: the given one, or else the entry's.
 fn screen_size(entry: &Entry, size: Option<Size>) -> Result<Size, ProfileFault>
     ensures judged { Judges result (size_fault (screen_size entry.now size)) }
+    ensures lasting { IfErr result (λ fault. fault ≢ ProfileFault.NoMemory) }
     ensures size { IfOk result (λ s. screen_size entry.now size ≡ Some (s.rows, s.columns)) }
 {
     if let Some(size) = size {

@@ -2,9 +2,11 @@
 //! nothing.
 ghost use Rattle.scr_term.specs.Operations.Bundled.{BundledIsEcma48};
 ghost use Rattle.scr_term.specs.Operations.Ecma48.{Ecma48Laws};
+ghost use Rattle.scr_term.specs.Operations.Larger.{MovesRefuseNothing};
 ghost use Rattle.scr_term.specs.Operations.Laws.{BlankLaws, BytesActAsTheirOperation, BytesActAsTheirOperations, LookGridLaws, ProfilesHave, RunLaws, ShownPenLaws, StepsKeepStates};
 
 use scr_cells::character_laws;
+use ti_caps::moves_are_left_out;
 use ti_param::{increment_adds_one, number_writes_decimal};
 
 /// What every profile has: it moves the cursor anywhere, clears the screen and writes what is seen
@@ -49,6 +51,14 @@ pub fn ecma48_laws()
 pub fn bundled_is_ecma48()
     ensures { BundledIsEcma48 }
 {}
+
+/// An entry without the texts that insert, delete or scroll (`Entry::without_moves`) is refused as it is with them,
+/// and its profile has no operation that does so.
+pub fn moves_refuse_nothing()
+    ensures { MovesRefuseNothing }
+{
+    moves_are_left_out();
+}
 
 /// Runs of operations can be joined, also if the first is undefined, and so can their bytes. A run
 /// leads from a state of a profile to a state of the same profile, and has only operations that the

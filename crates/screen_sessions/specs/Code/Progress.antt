@@ -15,7 +15,7 @@ use Rattle.scr_memory.specs.Memories.{Agrees, MemoryView}
 use Rattle.screen_sessions.specs.Making.{drawn_of}
 use Rattle.curses.specs.ScreenStates.{ScreenState}
 use Rattle.screen_sessions.specs.declared.sessions.Report.{Report}
-use Rattle.screen_sessions.specs.Sessions.{Beginning, HoldsFrom, IsAnswer, IsSession, MayBegin, beginning_of, begun_in, count_in, counted_in, drawn_at, fresh_beginning, is_cut, is_unfinished, is_update, last_ok_after, remembered_at}
+use Rattle.screen_sessions.specs.Sessions.{Beginning, HoldsFrom, IsAnswer, IsKnownAt, IsKnownSince, IsSession, MayBegin, beginning_of, begun_in, count_in, counted_in, drawn_at, finishes_in, fresh_beginning, is_cut, is_update, last_ok_after, remembered_at}
 use Rattle.curses.specs.Updates.{IsOfOneText}
 use Rattle.curses.specs.Writers.{WriterView}
 
@@ -31,7 +31,7 @@ pub record AreMadeAfresh (profile : ProfileView) (calls : List Call) (old new : 
   pub any : (opened : TerminalState) → IsState (abilities profile) opened → HoldsFrom profile (fresh_beginning profile) calls report.answers taken 0 opened
   pub last : report.last_ok ≡ last_ok_after false report.answers
   pub puts : new.failed_puts ≡ counted_in is_cut report.answers old.failed_puts
-  pub finishes : new.failed_finishes ≡ counted_in is_unfinished report.answers old.failed_finishes
+  pub finishes : new.finishes ≡ finishes_in report.answers old.finishes
 
 -- a terminal that was in one state is in this state after operations, which is as it is remembered
 pub record Reached (profile : ProfileView) (memory : MemoryView) (opened : TerminalState) (begun : List Op) : Type 0 where
@@ -51,11 +51,12 @@ pub record SoFar (profile : ProfileView) (first : Beginning) (begun : ScreenStat
   pub writer : Appends old.taken new.taken taken
   pub counted_all : count_in answers ≡ length taken
   pub puts : new.failed_puts ≡ counted_in is_cut answers old.failed_puts
-  pub finishes : new.failed_finishes ≡ counted_in is_unfinished answers old.failed_finishes
+  pub finishes : new.finishes ≡ finishes_in answers old.finishes
   pub right : (i : ℕ) → i < length answers → IsAnswer profile (remembered_at profile first calls answers i) (drawn_at first calls answers i) (slice_index_or calls i Doupdate) (slice_index_or answers i Nothing)
   pub bytes : taken ++ screen.owed ≡ first.owed ++ all_bytes profile (begun_in answers)
   pub one : IsOfOneText profile first.owed (begun_in answers) screen.owed
   -- where none of these calls was an update, nothing was begun
   pub quiet : list_all (λ call. not (is_update call)) (take (length answers) calls) ≡ true → begun_in answers ≡ []
+  pub known : (j i : ℕ) → i ≤ length answers → IsKnownSince first calls answers j i → IsKnownAt profile first calls answers i
   pub holds : (n : ℕ) (opened : TerminalState) → n ≤ length answers → MayBegin profile first calls answers n opened → HoldsFrom profile first calls answers taken n opened
   pub reached : (n : ℕ) (opened : TerminalState) → n ≤ length answers → MayBegin profile first calls answers n opened → Reached profile screen.memory opened (begun_in answers)

@@ -8,5 +8,5 @@ loop-bytes-preserved g c = record {
   writer = taken_more (g.W.Counted.told c.args.out.now).taken (g.W.Counted.told c.loop-bytes.out).taken (g.W.Counted.told c.put.new.self).taken c.args.text.now c.loop-bytes.bytes c.in-Ok.count
       c.loop-bytes.invariant.writer c.in-Ok.ensures.bytes;
   failed_puts = took_some _ c.in-Ok.count _ _ c.in-Ok.count-test.1 c.in-Ok.ensures.puts ∙ c.loop-bytes.invariant.failed_puts;
-  failed_finishes = c.in-Ok.ensures.finishes ∙ c.loop-bytes.invariant.failed_finishes;
+  finishes = c.in-Ok.ensures.finishes ∙ c.loop-bytes.invariant.finishes;
 }

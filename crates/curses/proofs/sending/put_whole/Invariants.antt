@@ -7,7 +7,7 @@ invariant-loop-bytes g l = record {
   inside : l.bytes ≤ length l.text;
   writer : Appends (g.W.Counted.told l.fn.out).taken (g.W.Counted.told l.out).taken (take l.bytes l.text);
   failed_puts : (g.W.Counted.told l.out).failed_puts ≡ (g.W.Counted.told l.fn.out).failed_puts;
-  failed_finishes : (g.W.Counted.told l.out).failed_finishes ≡ (g.W.Counted.told l.fn.out).failed_finishes;
+  finishes : (g.W.Counted.told l.out).finishes ≡ (g.W.Counted.told l.fn.out).finishes;
 }
 
 abbrev pub decreases-loop-bytes : goal.decreases-loop-bytes

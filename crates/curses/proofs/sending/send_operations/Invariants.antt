@@ -13,7 +13,7 @@ invariant-loop-begun g l = record {
   longest : (op : Op) → length (bytes_of l.profile op) ≤ 2048;
   cut : IsCut [] (all_bytes l.profile (take l.begun l.ops)) (g.W.Counted.told l.fn.out).taken (g.W.Counted.told l.out).taken l.bytes [];
   failed_puts : (g.W.Counted.told l.out).failed_puts ≡ (g.W.Counted.told l.fn.out).failed_puts;
-  failed_finishes : (g.W.Counted.told l.out).failed_finishes ≡ (g.W.Counted.told l.fn.out).failed_finishes;
+  finishes : (g.W.Counted.told l.out).finishes ≡ (g.W.Counted.told l.fn.out).finishes;
 }
 
 abbrev pub decreases-loop-begun : goal.decreases-loop-begun

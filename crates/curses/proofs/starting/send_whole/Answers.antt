@@ -2,7 +2,7 @@ use Rattle.std.proofs.Common.{◌∙◌, true, ap}
 use Rattle.std.specs.Option.{is_some}
 use Rattle.curses.specs.Writers.{counted}
 use Rattle.curses.proofs.StartingLaws.{sent_whole, stopped_in_text}
-use Rattle.curses.proofs.UpdateLaws.{some_not_none}
+use Rattle.curses.proofs.UpdateLaws.{failed_since, finished_since, some_not_none}
 use Rattle.curses.proofs.starting.send_whole.Goals as goal
 
 pub returns-in-Some-fault-clause-err : goal.returns-in-Some-fault-clause-err
@@ -23,8 +23,8 @@ returns-in-Some-finish_after-clause-err g c = (
       c.send_text-last.ensures.cut c.finish_after.ensures.bytes
       (c.finish_after.ensures.puts ∙ c.send_text-last.ensures.puts ∙ ap (λ f. counted (is_some f) (g.W.Counted.told c.send_all-first.new.out).failed_puts) c.in_default-fault.is ∙ c.send_all-first.ensures.puts
       ∙ ap (λ f. counted (is_some f) (g.W.Counted.told c.args.out.now).failed_puts) c.in_default.is),
-  c.finish_after.ensures.finishes ∙ ap (λ f. counted (is_some f) (g.W.Counted.told c.send_text-last.new.out).failed_finishes) c.in-Some-finish_after.is
-      ∙ ap (counted true) (c.send_text-last.ensures.finishes ∙ c.send_all-first.ensures.finishes),
+  failed_since (g.W.Counted.told c.args.out.now) (g.W.Counted.told c.send_text-last.new.out) (g.W.Counted.told c.finish_after.new.out) (c.send_text-last.ensures.finishes ∙ c.send_all-first.ensures.finishes)
+      (c.finish_after.ensures.failed (some_not_none _ _ c.in-Some-finish_after.is)),
 )
 
 pub returns-clause-ok : goal.returns-clause-ok
@@ -35,6 +35,6 @@ returns-clause-ok g c = (
       c.send_text-last.ensures.cut c.finish_after.ensures.bytes
       (c.finish_after.ensures.puts ∙ c.send_text-last.ensures.puts ∙ ap (λ f. counted (is_some f) (g.W.Counted.told c.send_all-first.new.out).failed_puts) c.in_default-fault.is ∙ c.send_all-first.ensures.puts
       ∙ ap (λ f. counted (is_some f) (g.W.Counted.told c.args.out.now).failed_puts) c.in_default.is),
-  c.finish_after.ensures.finishes ∙ ap (λ f. counted (is_some f) (g.W.Counted.told c.send_text-last.new.out).failed_finishes) c.in_default-finish_after.is ∙ c.send_text-last.ensures.finishes
-      ∙ c.send_all-first.ensures.finishes,
+  finished_since _ (g.W.Counted.told c.args.out.now) (g.W.Counted.told c.send_text-last.new.out) (g.W.Counted.told c.finish_after.new.out) (c.send_text-last.ensures.finishes ∙ c.send_all-first.ensures.finishes)
+      (c.finish_after.ensures.finished c.in_default-finish_after.is),
 )

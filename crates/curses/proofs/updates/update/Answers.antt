@@ -4,7 +4,7 @@ use Rattle.std.specs.List.{All}
 use Rattle.scr_term.specs.Operations.Texts.{has}
 use Rattle.curses.specs.Writers.{counted}
 use Rattle.curses.proofs.CutLaws.{nothing_left}
-use Rattle.curses.proofs.UpdateLaws.{beginnings_anew, begins_plan, had, kept_same, known_whole, planned_whole, sent_part, some_not_none}
+use Rattle.curses.proofs.UpdateLaws.{beginnings_anew, begins_plan, failed_since, finished_since, had, kept_same, known_whole, planned_whole, sent_part, some_not_none}
 use Rattle.curses.proofs.updates.update.Goals as goal
 
 pub send_all-sent-requires-clause-has : goal.send_all-sent-requires-clause-has
@@ -34,7 +34,8 @@ returns-in-Some-finish_after-clause-err g c = record {
       (c.truncate.ensures.items ∙ sym (ap (take c.send_all-sent.result.begun) c.deref.ensures.value)) (c.send_all-sent.ensures.whole c.in_default.is);
   nothing = c.send_all-sent.ensures.nothing c.in_default.is;
   puts = c.finish_after.ensures.puts ∙ c.send_all-sent.ensures.puts ∙ ap (λ f. counted (is_some f) (g.W.Counted.told c.args.out.now).failed_puts) c.in_default.is;
-  finishes = c.finish_after.ensures.finishes ∙ ap (λ f. counted (is_some f) (g.W.Counted.told c.send_all-sent.new.out).failed_finishes) c.in-Some-finish_after.is ∙ ap (counted true) c.send_all-sent.ensures.finishes;
+  finished = failed_since (g.W.Counted.told c.args.out.now) (g.W.Counted.told c.send_all-sent.new.out) (g.W.Counted.told c.finish_after.new.out) c.send_all-sent.ensures.finishes
+      (c.finish_after.ensures.failed (some_not_none _ _ c.in-Some-finish_after.is));
 }
 
 pub returns-clause-ok : goal.returns-clause-ok
@@ -51,7 +52,8 @@ returns-clause-ok g c = record {
       (c.deref.ensures.value ∙ c.plan.view_is) (c.truncate.ensures.items ∙ sym (ap (take c.send_all-sent.result.begun) c.deref.ensures.value)) (c.send_all-sent.ensures.whole c.in_default.is);
   nothing = c.send_all-sent.ensures.nothing c.in_default.is;
   puts = c.finish_after.ensures.puts ∙ c.send_all-sent.ensures.puts ∙ ap (λ f. counted (is_some f) (g.W.Counted.told c.args.out.now).failed_puts) c.in_default.is;
-  finishes = c.finish_after.ensures.finishes ∙ ap (λ f. counted (is_some f) (g.W.Counted.told c.send_all-sent.new.out).failed_finishes) c.in_default-finish_after.is ∙ c.send_all-sent.ensures.finishes;
+  finished = finished_since c.send_all-sent.result.bytes (g.W.Counted.told c.args.out.now) (g.W.Counted.told c.send_all-sent.new.out) (g.W.Counted.told c.finish_after.new.out) c.send_all-sent.ensures.finishes
+      (c.finish_after.ensures.finished c.in_default-finish_after.is);
 }
 
 pub returns-in-Some-clause-anew : goal.returns-in-Some-clause-anew

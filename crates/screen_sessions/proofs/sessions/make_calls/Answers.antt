@@ -23,7 +23,7 @@ loop-call-preserved g c =
 pub returns-clause-ok : goal.returns-clause-ok
 returns-clause-ok g c =
     made_of c.args.screen.now c.loop-call.screen c.args.calls.now (record { answers = c.loop-call.answers.items; last_ok = c.loop-call.last_ok }) (g.W.Counted.told c.args.out.now) (g.W.Counted.told c.loop-call.out) c.loop-call.invariant.so_far
-    (omega (arith, c.loop-call.invariant.made, c.loop-call-test.false, c.loop-call.auto.call-index-end)) c.loop-call.invariant.last
+    (omega (arith, c.loop-call.invariant.made, c.loop-call-test.false, c.loop-call.auto.call-index-end)) c.loop-call.invariant.last c.screen-size.ensures.possible
 
 pub loop-call-init : goal.loop-call-init
 loop-call-init g c = record {

@@ -7,7 +7,7 @@ invariant-loop-sent g l = record {
   inside : l.sent ≤ length l.text;
   taken : Appends (g.W.Counted.told l.fn.out).taken (g.W.Counted.told l.out).taken (take l.sent l.text);
   puts : (g.W.Counted.told l.out).failed_puts ≡ (g.W.Counted.told l.fn.out).failed_puts;
-  finishes : (g.W.Counted.told l.out).failed_finishes ≡ (g.W.Counted.told l.fn.out).failed_finishes;
+  finishes : (g.W.Counted.told l.out).finishes ≡ (g.W.Counted.told l.fn.out).finishes;
 }
 
 abbrev pub decreases-loop-sent : goal.decreases-loop-sent
