@@ -24,8 +24,12 @@ pub fn answer_of_screen(subjects: &mut Subjects, line: &mut Line<'_>) -> Result<
         "screen" | "utf8_screen" => open(&mut subjects.opened, None, line),
         "moving" | "utf8_moving" => open(&mut subjects.opened, Some(MOVING), line),
         "drawn" => open_drawn(&mut subjects.opened, line),
-        "sessions" | "narrow_sessions" | "cut_sessions" | "utf8_sessions" | "utf8_cut_sessions" =>
-            check_sessions(&mut subjects.made_up, line),
+        "sessions"
+        | "narrow_sessions"
+        | "larger_sessions"
+        | "cut_sessions"
+        | "utf8_sessions"
+        | "utf8_cut_sessions" => check_sessions(&mut subjects.made_up, line),
         "changed" => check_changed(line),
         "refusal" => add_refusal(line),
         _ => match &mut subjects.opened {

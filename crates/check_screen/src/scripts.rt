@@ -7,7 +7,7 @@ use check_harness::troubles::Trouble;
 use check_harness::words::Line;
 use generated_sessions::{add_defined, read_fails, writer_that};
 use scr_cells::Charset;
-use screen_scripts::{DemoFault, Output, refusals, run};
+use screen_scripts::{DemoFault, Output, refusals, run, run_as};
 use std::io::ErrorKind;
 
 /// The lines `run TEXT`, `run_raw TEXT`, `utf8_run TEXT`, `refusals TEXT`, `run_writing N TEXT`, `run_stuck N TEXT`,
@@ -27,15 +27,18 @@ pub fn answer_of_script(subjects: &mut Subjects, line: &mut Line<'_>) -> Result<
         return Ok(true);
     }
     let mut out = writer_that(line.alloc, fails)?;
-    let output = Output {
-        charset: if line.name == "utf8_run" {
-            Charset::Utf8
-        } else {
-            Charset::Ascii
-        },
-        is_raw: matches!(line.name, "run_raw" | "feed_run"),
+    let is_raw = matches!(line.name, "run_raw" | "feed_run");
+    let ended = if line.name == "utf8_run" {
+        let charset = Charset::Utf8;
+        run_as(
+            line.alloc,
+            text.bytes(),
+            Output { charset, is_raw },
+            &mut out,
+        )
+    } else {
+        run(line.alloc, text.bytes(), is_raw, &mut out)
     };
-    let ended = run(line.alloc, text.bytes(), output, &mut out);
     match &mut subjects.ecma {
         _ if line.name != "feed_run" => {
             add_text(out.taken(), &mut line.got);

@@ -1,9 +1,11 @@
 -- Screens on an entry as programs take it: colours first, and without a last column that would scroll. terminfo(5),
 -- 'Color Handling', 'Basic Capabilities'.
-use Rattle.std.specs.Prelude.{◌≡◌, ◌+◌, ◌⊎◌, Bool, true, false, Option, Some, None}
+use Rattle.std.specs.Prelude.{◌≡◌, ◌+◌, ◌⊎◌, ◌&&◌, Bool, true, false, Option, Some, None, is_some, if◌then◌else◌}
 use Rattle.scr_cells.specs.declared.sizes.Size.{Size}
 use Rattle.ti_caps.specs.Adapted.{colours_first, without_last_column, wraps_at_once}
 use Rattle.ti_caps.specs.Description.{Description}
+use Rattle.ti_caps.specs.declared.slots.TheConstants.{OP, SETAB, SETAF, SGR0}
+use Rattle.scr_term.specs.Operations.Admission.{sent_at}
 use Rattle.scr_term.specs.declared.operations.profile_faults.ProfileFault.TheVariants.{NoSize}
 use Rattle.scr_keys.specs.declared.sets.KeySet.{KeySet}
 use Rattle.curses.specs.declared.opening.Opening.{Opening}
@@ -17,9 +19,17 @@ pub record AdaptedView : Type 0 where
   pub entry : Description
   pub is_narrow : Bool
 
+-- Something is sent for each text that colours take; one of padding alone sends nothing.
+abbrev pub sends_colours : Description → Bool
+sends_colours d = is_some (sent_at d SETAF) && (is_some (sent_at d SETAB) && (is_some (sent_at d OP) && is_some (sent_at d SGR0)))
+
+-- The entry with colours first, if colours come of it.
+abbrev pub coloured : Description → Description
+coloured d = if sends_colours d then colours_first d else d
+
 -- The entry as programs take it.
 abbrev pub adapted : Description → AdaptedView
-adapted entry = record { entry = colours_first (without_last_column entry); is_narrow = wraps_at_once entry }
+adapted entry = record { entry = coloured (without_last_column entry); is_narrow = wraps_at_once entry }
 
 -- The size of a screen on a terminal of this size: where its last column is left out one column less, if one is left.
 abbrev pub IsSizeOn : Bool → Size → Option Size → Type 0

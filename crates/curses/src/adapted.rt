@@ -1,7 +1,7 @@
 //! Entries as programs take them. The definitions are in `specs/Adapted.antt`.
-ghost use Rattle.std.specs.Prelude.{◌≡◌, IfErr, IfOk, IsErrOf, option_map};
-ghost use Rattle.curses.specs.Adapted.{IsAnySizeOn, IsNothingLeft, IsOpenedAdapted, IsSizeOn, IsUnopenedAdapted, adapted};
-ghost use Rattle.scr_term.specs.Operations.Admission.{IsSuitable};
+ghost use Rattle.std.specs.Prelude.{◌≡◌, IfErr, IfOk, IsErrOf, is_some};
+ghost use Rattle.curses.specs.Adapted.{IsAnySizeOn, IsNothingLeft, IsOpenedAdapted, IsSizeOn, IsUnopenedAdapted, adapted, sends_colours};
+ghost use Rattle.scr_term.specs.Operations.Admission.{IsSuitable, sent_at};
 
 use crate::faults::OpenFault;
 use crate::opening::Opening;
@@ -10,10 +10,12 @@ use scr_cells::Size;
 use scr_term::ProfileFault;
 use std::alloc::Global;
 use std::marker::Model;
-use ti_caps::Entry;
+use ti_caps::{Entry, Slot, slots};
+use ti_param::stripped_length;
 
 /// An entry as programs take it, so that more terminals are served than with the entry as it is: colours come before
-/// the attributes that they exclude (`Entry::colours_first`), and where a character in the last column would scroll the
+/// the attributes that they exclude (`Entry::colours_first`), unless no colours come of it since one of their texts sends
+/// nothing, and where a character in the last column would scroll the
 /// screen, that column is left out (`Entry::without_last_column`).
 #[derive(Drop)]
 pub struct AdaptedEntry {
@@ -36,7 +38,9 @@ impl AdaptedEntry {
     {
         let mut entry = entry;
         let is_narrow = entry.without_last_column();
-        entry.colours_first();
+        if sends_colours(&entry) {
+            entry.colours_first();
+        }
         AdaptedEntry { entry, is_narrow }
     }
 
@@ -90,5 +94,25 @@ impl AdaptedEntry {
             Some(size) => Ok(Some(size)),
             None => Err(OpenFault::Profile(ProfileFault::NoSize)),
         }
+    }
+}
+
+// Whether something is sent for each text that colours take.
+fn sends_colours(entry: &Entry) -> bool
+    ensures { result ≡ sends_colours entry.now }
+{
+    sends(entry, slots::SETAF)
+        && sends(entry, slots::SETAB)
+        && sends(entry, slots::OP)
+        && sends(entry, slots::SGR0)
+}
+
+// Whether something is sent for the text at a position: it is there, and not of padding alone.
+fn sends(entry: &Entry, slot: Slot) -> bool
+    ensures { result ≡ is_some (sent_at entry.now slot) }
+{
+    match entry.text(slot) {
+        Some(text) => stripped_length(text) > 0,
+        None => false,
     }
 }

@@ -14,11 +14,11 @@ pub struct Emulated {
     // It reads the bytes that are sent, where these are ECMA-48, and what it shows counts then. It does not know the
     // texts that move lines and characters or repeat these: a terminal that has one of them is the other alone.
     screen: Option<EcmaScreen>,
-    // The same terminal with the column that its screen leaves out, if it leaves one out.
+    // The same terminal with what its screen leaves out, if it leaves anything out.
     whole: Option<Whole>,
 }
 
-// A terminal of one column more than its screen has.
+// A terminal of one column more than its screen has, and perhaps more rows.
 #[derive(Drop)]
 struct Whole {
     profile: Profile,
@@ -41,9 +41,9 @@ impl Emulated {
         })
     }
 
-    /// Has a blank column behind those of the screen, by a profile of the same entry with one column more. No operation
-    /// may reach it.
-    pub fn add_last_column(&mut self, alloc: Global, profile: Profile) -> Result<(), NoMemory> {
+    /// Has a blank column behind those of the screen, and perhaps blank rows below, by a profile of the same entry with as
+    /// many more. No operation may reach them.
+    pub fn enlarge(&mut self, alloc: Global, profile: Profile) -> Result<(), NoMemory> {
         let terminal = Terminal::new(alloc, profile.size())?;
         self.whole = Some(Whole { profile, terminal });
         Ok(())
@@ -58,7 +58,7 @@ impl Emulated {
     }
 
     /// Executes the operations of an update and reads its bytes, and tells whether all are defined, and show the same
-    /// where the terminal has a column more.
+    /// where the terminal is larger.
     pub fn take(&mut self, profile: &Profile, bytes: &[u8], ops: &[Op]) -> bool {
         for op in ops {
             if !matches!(step_on(&mut self.terminal, profile, *op), Ok(true)) {

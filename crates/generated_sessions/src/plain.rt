@@ -123,7 +123,12 @@ impl Plain {
             .take(part.columns as usize);
         let first = self.place_of(part.top.saturating_add(row), part.left);
         for (place, cell) in self.places.iter_mut().skip(first).zip(cells) {
-            *place = (cell.character(), cell.stand_in(), cell.attrs().0, cell.pair());
+            *place = (
+                cell.character(),
+                cell.stand_in(),
+                cell.attrs().0,
+                cell.pair(),
+            );
         }
     }
 

@@ -103,12 +103,14 @@ impl Recorded {
         Ok(None)
     }
 
-    /// Has the emulated terminal one column more than the screen, which nothing may reach.
-    pub fn add_last_column(&mut self) -> Result<(), Trouble> {
+    /// Has the emulated terminal one column more than the screen, and so many rows more, which nothing may reach.
+    pub fn enlarge(&mut self, more: u32) -> Result<(), Trouble> {
         let Size { rows, columns, .. } = self.profile.size();
-        let size = Size::new(rows, columns.saturating_add(1)).ok_or(Trouble::Bad("no size"))?;
+        let size = Size::new(rows.saturating_add(more), columns.saturating_add(1)).ok_or(
+            Trouble::Bad("no size"),
+        )?;
         match Profile::admit_as(self.alloc, &self.entry, Some(size), self.opening.charset) {
-            Ok(profile) => Ok(self.emulated.add_last_column(self.alloc, profile)?),
+            Ok(profile) => Ok(self.emulated.enlarge(self.alloc, profile)?),
             Err(_) => Err(Trouble::NoMemory),
         }
     }
@@ -234,7 +236,8 @@ impl Recorded {
         session_as(
             self.alloc,
             &self.entry,
-            (size, self.opening),
+            size,
+            self.opening,
             &self.calls,
             device,
         )

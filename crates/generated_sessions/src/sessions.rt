@@ -63,6 +63,9 @@ struct Sessions {
 /// The line `narrow_sessions` does so on a terminal without `xenl`, whose last column the screen leaves out. Nothing may
 /// reach it there.
 ///
+/// The line `larger_sessions` does so on a terminal of one row and one column more than the screen. No update may move
+/// rows or characters there.
+///
 /// The line `cut_sessions R C COUNT UPDATES SEED CUTS NAME ..`: the same, but that no update fails and nothing is
 /// written by others, and each update is cut as with `count_cuts`, which is at least so many cuts.
 pub fn check_sessions(opened: &mut Option<Recorded>, line: &mut Line<'_>) -> Result<(), Trouble> {
@@ -102,7 +105,8 @@ pub fn check_sessions(opened: &mut Option<Recorded>, line: &mut Line<'_>) -> Res
     Ok(())
 }
 
-/// How a line's screen is opened: in UTF-8 where the name begins with `utf8`.
+/// How a line's screen is opened: in UTF-8 where the name begins with `utf8`, on a terminal that may be larger where it
+/// begins with `larger`.
 pub fn opening_of(name: &str) -> Opening {
     Opening {
         charset: if name.starts_with("utf8") {
@@ -111,7 +115,7 @@ pub fn opening_of(name: &str) -> Opening {
             Charset::Ascii
         },
         keys: KeySet::Table,
-        is_larger: false,
+        is_larger: name.starts_with("larger"),
     }
 }
 
@@ -142,7 +146,8 @@ impl Sessions {
     // Adds `agrees`, or how many there are of each, where these are fewer than at least wanted.
     fn add_counts(&self, least: [u32; 4], got: &mut Buffer) {
         let mut counts = self.counts.iter().zip(&least);
-        if counts.all(|(count, least)| count >= least) {
+        let is_still = !self.opening.is_larger || self.counts[2] == 0;
+        if is_still && counts.all(|(count, least)| count >= least) {
             add_word("agrees", got);
             return;
         }
@@ -180,8 +185,8 @@ impl Sessions {
     }
 
     fn check_opened(&mut self, opened: &mut Recorded) -> Result<bool, Trouble> {
-        if self.is_narrow {
-            opened.add_last_column()?;
+        if self.is_narrow || self.opening.is_larger {
+            opened.enlarge(u32::from(self.opening.is_larger))?;
         }
         for line in &BEGIN {
             self.line.extend(line.as_bytes());

@@ -176,8 +176,7 @@ stays : (old new : ScreenState) (call : Call) (answer : Answer) (w v : WriterVie
     → is_known old.memory ≡ true → old.owed ≡ [] → (is_known new.memory ≡ true) × (new.owed ≡ [])
 stays old new call answer w v made begun updated marks known nothing =
     let text : length (old.owed ++ all_bytes old.profile (begun_of answer)) ≡ 0 =
-    ap (λ o. length (o ++ all_bytes old.profile (begun_of answer))) nothing ∙ ap (λ ops. length (all_bytes old.profile ops)) begun in
-    (
+    ap (λ o. length (o ++ all_bytes old.profile (begun_of answer))) nothing ∙ ap (λ ops. length (all_bytes old.profile ops)) begun in (
       ap is_known (made.memory ∙ same_memory (is_update call) old.memory (memory_updated old.profile old.memory answer) (marked_by old.desk call) updated marks) ∙ known,
       none_left new.owed (omega (arith, text, ap length made.sent.cut.whole, length-append made.sent.cut.taken new.owed)),
     )

@@ -1,6 +1,6 @@
 -- A writer for tests: it takes some bytes, fails a number of times, and so on with each further fault, and then takes
 -- everything.
-use Rattle.std.specs.Prelude.{ℕ, zero, ◌-◌, ◌≡◌, ◌&&◌, ◌++◌, Bool, true, nat_le, nat_lt, min, List, [], ◌∷◌, length, take, Result, Ok, Err, IsOk, if◌then◌else◌}
+use Rattle.std.specs.Prelude.{ℕ, zero, ◌+◌, ◌-◌, ◌≡◌, ◌<◌, ◌&&◌, ◌++◌, Bool, true, nat_le, nat_lt, min, List, [], ◌∷◌, length, take, Result, Ok, Err, if◌then◌else◌}
 use Rattle.std.specs.IoError.{error_kind}
 use Rattle.std.specs.declared.io.Error.{Error}
 use Rattle.std.specs.declared.io.ErrorKind.{ErrorKind}
@@ -10,26 +10,28 @@ use Rattle.screen_sessions.specs.declared.faulty.WriterFailure.{WriterFailure}
 use Rattle.screen_sessions.specs.declared.faulty.WriterFailure.TheVariants as failures
 use Rattle.screen_sessions.specs.declared.faulty.WriterFault.{WriterFault}
 
--- The bytes accepted so far; the fault that comes next, and how many of its failures are left; the faults after it,
--- each of which fails once; and how often the writer was called.
+-- The bytes accepted so far, and how many there is room for without more memory; the fault that comes next, and how many
+-- of its failures are left; the faults after it, each of which fails once; and how often the writer was called.
 pub record FaultyView : Type 0 where
   pub taken : List ℕ
+  pub room : ℕ
   pub fault : WriterFault
   pub left : ℕ
   pub later : List WriterFault
   pub calls : ℕ
 
--- A writer that took these bytes so far, and fails once at each of these faults.
-abbrev pub with_faults : List ℕ → List WriterFault → FaultyView
-with_faults taken [] =
+-- A writer that took these bytes so far, has so much room, and fails once at each of these faults.
+abbrev pub with_faults : List ℕ → ℕ → List WriterFault → FaultyView
+with_faults taken room [] =
     record {
       taken = taken;
+      room = room;
       fault = record { limit = 0; failure = failures.Error; kind = Other };
       left = 0;
       later = [];
       calls = 0;
     }
-with_faults taken (fault ∷ later) = record { taken = taken; fault = fault; left = 1; later = later; calls = 0 }
+with_faults taken room (fault ∷ later) = record { taken = taken; room = room; fault = fault; left = 1; later = later; calls = 0 }
 
 -- The limit is reached and failures are left.
 abbrev pub is_due : FaultyView → Bool
@@ -79,12 +81,17 @@ flush_that due failure writer = (writer, Ok tt)
 abbrev pub flush_call : FaultyView → FaultyView × Result (Unit {0}) ErrorKind
 flush_call writer = flush_that (is_due writer) writer.fault.failure (called writer)
 
--- Writer and answer are as the call's definition says.
+-- Writer and answer are as the call's definition says; what room there is then is not.
 abbrev pub IsAnswered : {A : Type 0} → FaultyView → Result A Error → FaultyView × Result A ErrorKind → Type 0
-IsAnswered new (Ok value) call = (new ≡ call.0) × (call.1 ≡ Ok value)
-IsAnswered new (Err error) call = (new ≡ call.0) × (call.1 ≡ Err (error_kind error))
+IsAnswered new (Ok value) call = (new ≡ record call.0 { room = new.room }) × (call.1 ≡ Ok value)
+IsAnswered new (Err error) call = (new ≡ record call.0 { room = new.room }) × (call.1 ≡ Err (error_kind error))
 
--- Memory ran out in a write that was to take bytes; the writer has only counted the call.
+-- The writer has no room for the bytes that a write is to take.
+abbrev pub IsFull : FaultyView → Result ℕ ErrorKind → Type 0
+IsFull writer (Ok count) = writer.room < length writer.taken + count
+IsFull writer (Err kind) = ⊥
+
+-- Memory ran out in a write that was to take bytes for which there was no room; the writer has only counted the call.
 abbrev pub RanOut : FaultyView → FaultyView → Result ℕ Error → FaultyView × Result ℕ ErrorKind → Type 0
 RanOut old new (Ok value) call = ⊥
-RanOut old new (Err error) call = (IsOk call.1) × (new ≡ called old) × (error_kind error ≡ OutOfMemory)
+RanOut old new (Err error) call = IsFull old call.1 × (new ≡ called old) × (error_kind error ≡ OutOfMemory)

@@ -28,7 +28,8 @@ use Rattle.screen_sessions.specs.declared.answers.Answer.{Answer}
 use Rattle.screen_sessions.specs.declared.answers.Answer.TheVariants.{Failed, Nothing, Refused, Sent}
 use Rattle.screen_sessions.specs.declared.calls.Call.{Call}
 use Rattle.screen_sessions.specs.declared.calls.Call.TheVariants.{Doupdate, Noutrefresh, PadNoutrefresh, RedrawLines, RedrawWindow, SetPair, SetPairOf}
-use Rattle.curses.specs.Opening.{default_opening}
+use Rattle.curses.specs.Adapted.{AdaptedView, IsAnySizeOn}
+use Rattle.curses.specs.Opening.{default_opening, served}
 use Rattle.curses.specs.declared.opening.Opening.{Opening}
 use Rattle.curses.specs.declared.faults.UpdateFault.TheVariants as update_faults
 use Rattle.curses.specs.declared.faults.UpdateFault.TheVariants.{Flush, Write}
@@ -372,7 +373,7 @@ pub record AreMade (old new : ScreenState) (calls : List Call) (before after : W
 -- after.
 pub record IsReportAs (asked : Opening) (entry : Description) (size : Option Size) (calls : List Call) (old new : WriterView) (report : Report) : Type 0 where
   pub profile : ProfileView
-  pub admitted : IsAdmittedAs asked.charset entry size profile
+  pub admitted : IsAdmittedAs asked.charset (served asked entry) size profile
   pub keys : too_long asked.keys entry ≡ None
   pub taken : List ℕ
   pub writer : Appends old.taken new.taken taken
@@ -382,6 +383,12 @@ pub record IsReportAs (asked : Opening) (entry : Description) (size : Option Siz
   pub last : report.last_ok ≡ last_ok_after false report.answers
   pub puts : new.failed_puts ≡ counted_in is_cut report.answers old.failed_puts
   pub finishes : new.finishes ≡ finishes_in report.answers old.finishes
+
+-- The same on an entry as programs take it, on a terminal of this size, if one is given.
+pub record IsReportAdapted (asked : Opening) (adapted : AdaptedView) (given : Option Size) (calls : List Call) (old new : WriterView) (report : Report) : Type 0 where
+  pub size : Option Size
+  pub sized : IsAnySizeOn adapted.is_narrow given size
+  pub is : IsReportAs asked adapted.entry size calls old new report
 
 -- The same if nothing is asked for.
 abbrev pub IsReport : Description → Option Size → List Call → WriterView → WriterView → Report → Type 0

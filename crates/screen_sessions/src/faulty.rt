@@ -1,5 +1,5 @@
 //! A writer for tests, which fails when it is told to. The definitions are in `specs/Faulty.antt`.
-ghost use Rattle.std.specs.Prelude.{◌≡◌, ◌<◌, ◌⊎◌, [], Some};
+ghost use Rattle.std.specs.Prelude.{◌≡◌, ◌<◌, ◌⊎◌, [], Some, vec_capacity};
 ghost use Rattle.std.specs.Io.{WritesAtMost};
 ghost use Rattle.std.specs.Io.KnownBytes.{Keeps, WriteAppends};
 ghost use Rattle.screen_sessions.specs.Faulty.{IsAnswered, RanOut, called, failed_once, flush_call, going_on, is_due, room_for, with_faults, write_call};
@@ -34,8 +34,8 @@ pub struct WriterFault {
 /// A writer over memory for tests: it takes a number of bytes, then fails a number of times, and so on with each
 /// further fault, and then takes everything.
 ///
-/// A write that begins before the limit of the fault that comes next takes bytes up to the limit and no further. If
-/// memory runs out in a write, the error is of kind `OutOfMemory` and nothing is accepted. An update can write to it
+/// A write that begins before the limit of the fault that comes next takes bytes up to the limit and no further. If there
+/// is no room for its bytes and memory runs out, the error is of kind `OutOfMemory` and nothing is accepted. An update can write to it
 /// through `Device`.
 #[derive(Debug, Drop)]
 pub struct Faulty {
@@ -49,17 +49,18 @@ pub struct Faulty {
 }
 
 impl Model for Faulty {
+    ghost use Rattle.std.specs.Prelude.{vec_capacity};
     ghost use Rattle.screen_sessions.specs.Faulty.{FaultyView};
 
     ghost Value = { FaultyView };
 
-    ghost view = { λ w. record { taken = w.taken.items; fault = w.fault; left = w.left; later = w.later.items; calls = w.calls } };
+    ghost view = { λ w. record { taken = w.taken.items; room = vec_capacity w.taken; fault = w.fault; left = w.left; later = w.later.items; calls = w.calls } };
 }
 
 impl Faulty {
     /// A writer that takes `limit` bytes, and then fails in this way `times` times. Its errors are of kind `Other`.
     pub fn new(alloc: Global, limit: usize, failure: WriterFailure, times: usize) -> Faulty
-        ensures { result ≡ record { taken = []; fault = record { limit = limit; failure = failure; kind = ErrorKind.Other }; left = times; later = []; calls = 0 } }
+        ensures { result ≡ record { taken = []; room = result.room; fault = record { limit = limit; failure = failure; kind = ErrorKind.Other }; left = times; later = []; calls = 0 } }
     {
         Faulty {
             taken: Vec::new(alloc),
@@ -77,7 +78,7 @@ impl Faulty {
     /// A writer that has accepted these bytes so far, and fails once at each of these faults, one after another. It
     /// allocates only where the vector has no room for the bytes that it takes.
     pub fn with_faults(taken: Vec<u8>, faults: Vec<WriterFault>) -> Faulty
-        ensures { result ≡ with_faults taken.items faults.items }
+        ensures { result ≡ with_faults taken.items (vec_capacity taken) faults.items }
     {
         let mut writer = Faulty {
             taken,

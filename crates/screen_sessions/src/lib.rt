@@ -11,5 +11,6 @@ pub use answers::Answer;
 pub use calls::Call;
 pub use faulty::{Faulty, WriterFailure, WriterFault};
 pub use sessions::{
-    Answers, Report, disturbed_rows_hold_again, make_call, make_calls, session, session_as,
+    Answers, Report, disturbed_rows_hold_again, make_call, make_calls, session, session_adapted,
+    session_as,
 };

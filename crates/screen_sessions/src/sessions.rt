@@ -3,13 +3,14 @@ ghost use Rattle.std.specs.Prelude.{◌≡◌, IfErr, IfOk, IsErrOf, OnErr, fals
 ghost use Rattle.screen_sessions.specs.declared.calls.Call.TheVariants.{Doupdate};
 ghost use Rattle.screen_sessions.specs.Code.Progress.{AreMadeAfresh, IsFresh};
 ghost use Rattle.screen_sessions.specs.Making.{IsMade};
+ghost use Rattle.curses.specs.Adapted.{IsUnopenedAdapted};
 ghost use Rattle.curses.specs.Opening.{IsUnopened, IsUnopenedWith};
 ghost use Rattle.scr_term.specs.Operations.Admission.{IsSuitable};
-ghost use Rattle.screen_sessions.specs.Sessions.{AreMade, DisturbedRowsHoldAgain, IsReport, IsReportAs, ended_well, is_update};
+ghost use Rattle.screen_sessions.specs.Sessions.{AreMade, DisturbedRowsHoldAgain, IsReport, IsReportAdapted, IsReportAs, ended_well, is_update};
 
 use crate::answers::{Answer, done_answer};
 use crate::calls::{Call, make_window_call};
-use curses::{Counted, OpenFault, Opening, Screen};
+use curses::{AdaptedEntry, Counted, OpenFault, Opening, Screen};
 use scr_cells::{NoMemory, Size};
 use scr_memory::{known_memories, memory_laws, memory_runs};
 use scr_plan::plan_is_cheap;
@@ -63,24 +64,42 @@ pub fn session<W: Counted>(
     ensures memory { IsErrOf result OpenFault.NoMemory → IsSuitable entry.now }
     ensures untouched { OnErr result (out.new ≡ out.old) }
 {
-    session_as(alloc, entry, (size, Opening::new()), calls, out)
+    session_as(alloc, entry, size, Opening::new(), calls, out)
 }
 
 /// The same on a screen that is opened as is asked for (`Screen::open_as`).
 pub fn session_as<W: Counted>(
     alloc: Global,
     entry: &Entry,
-    opened: (Option<Size>, Opening),
+    size: Option<Size>,
+    opening: Opening,
     calls: &[Call],
     out: &mut W,
 ) -> Result<Report, OpenFault>
-    ensures ok { IfOk result (IsReportAs opened.1 entry.now opened.0 calls.now (W.told out.old) (W.told out.new)) }
-    ensures err { IfErr result (IsUnopenedWith opened.1.keys entry.now opened.0) }
+    ensures ok { IfOk result (IsReportAs opening entry.now size calls.now (W.told out.old) (W.told out.new)) }
+    ensures err { IfErr result (IsUnopenedWith opening.keys entry.now size) }
     ensures memory { IsErrOf result OpenFault.NoMemory → IsSuitable entry.now }
     ensures untouched { OnErr result (out.new ≡ out.old) }
 {
-    let (size, opening) = opened;
     let screen = Screen::open_as(alloc, entry, size, opening)?;
+    made_on(screen, alloc, calls, out)
+}
+
+/// The same on an entry as programs take it, on a terminal of this size (`AdaptedEntry::open`).
+pub fn session_adapted<W: Counted>(
+    alloc: Global,
+    entry: &AdaptedEntry,
+    size: Option<Size>,
+    opening: Opening,
+    calls: &[Call],
+    out: &mut W,
+) -> Result<Report, OpenFault>
+    ensures ok { IfOk result (IsReportAdapted opening entry.now size calls.now (W.told out.old) (W.told out.new)) }
+    ensures err { IfErr result (IsUnopenedAdapted opening.keys entry.now size) }
+    ensures memory { IsErrOf result OpenFault.NoMemory → IsSuitable entry.now.entry }
+    ensures untouched { OnErr result (out.new ≡ out.old) }
+{
+    let screen = entry.open(alloc, size, opening)?;
     made_on(screen, alloc, calls, out)
 }
 

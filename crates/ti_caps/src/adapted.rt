@@ -159,8 +159,7 @@ impl Entry {
 /// without them.
 pub fn moves_are_left_out()
     ensures { MovesAreLeftOut }
-{
-}
+{}
 
 // Whether an attribute is among those of `ncv`.
 fn is_excluded(attributes: u16, weight: u16) -> bool
