@@ -233,6 +233,40 @@ static void show_nothing(void)
         refresh();
 }
 
+/* Words in pair 1 on three lines. */
+static void draw_in_pair(void)
+{
+    int row;
+
+    attrset(COLOR_PAIR(1));
+    for (row = 4; row < 13; row += 4)
+        mvaddstr(row, 30, "in this pair");
+    attrset(A_NORMAL);
+    move(10, 5);
+    refresh();
+}
+
+static void change_pair(void)
+{
+    int n;
+
+    draw_in_pair();
+    for (n = 0; n < CALLS; n++) {
+        init_pair(1, n % 2 ? COLOR_RED : COLOR_GREEN, COLOR_BLUE);
+        refresh();
+    }
+}
+
+static void leave_and_return(void)
+{
+    int n;
+
+    for (n = 0; n < CALLS; n++) {
+        endwin();
+        refresh();
+    }
+}
+
 static void erase_all(void)
 {
     int n;
@@ -268,7 +302,7 @@ static const struct {
     {"far", move_scattered}, {"far-addch", add_scattered}, {"far-addstr5", add_scattered_words},
     {"far-inch", read_scattered}, {"pens-addch", add_in_pens}, {"pens-addstr5", add_words_in_pens},
     {"far-pens-addch", add_scattered_in_pens}, {"windows-addch", add_on_windows},
-    {"windows-addstr5", add_words_on_windows},
+    {"windows-addstr5", add_words_on_windows}, {"init_pair", change_pair}, {"endwin", leave_and_return},
 };
 
 int main(int argc, char **argv)

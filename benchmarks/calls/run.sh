@@ -83,6 +83,11 @@ row windows-addch '`waddch`, four windows in turn' 4
 row windows-addstr5 '`wmove` and `waddstr` of 5 characters, four windows in turn' 0
 echo
 
+head 'Updates'
+row init_pair '`init_pair` of a pair in use on three lines, and `refresh`' 0
+row endwin '`endwin`, and `refresh`' 0
+echo
+
 ours=$(count "$folder/start")
 shared=$(count "$folder/start-ncurses")
 linked=$(count "$folder/start-static")

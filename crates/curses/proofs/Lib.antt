@@ -3,3 +3,4 @@ pub mod RememberedLaws
 pub mod StartingLaws
 pub mod TextLaws
 pub mod UpdateLaws
+pub mod OpeningLaws

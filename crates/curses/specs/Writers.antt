@@ -7,6 +7,10 @@ pub record Finishes : Type 0 where
   pub asked : ℕ
   pub failed : ℕ
 
+-- So many were asked for, and so many of them failed.
+abbrev pub finishes_of : ℕ → ℕ → Finishes
+finishes_of asked failed = record { asked = asked; failed = failed }
+
 -- All bytes accepted so far, if they are known; the number of puts of a non-empty piece that failed or accepted
 -- nothing; the finishes; and whether a put came after the last of them.
 pub record WriterView : Type 0 where
@@ -28,7 +32,7 @@ counted failed count = if failed then min (count + 1) (2 ^ 64 - 1) else count
 
 -- One finish more was asked for, and failed or not.
 abbrev pub finished : Bool → Finishes → Finishes
-finished failed finishes = record { asked = counted true finishes.asked; failed = counted failed finishes.failed }
+finished failed finishes = finishes_of (counted true finishes.asked) (counted failed finishes.failed)
 
 -- The finishes after texts of which `count` bytes were accepted, if none failed: one more, unless nothing was accepted.
 abbrev pub finished_after : ℕ → Finishes → Finishes

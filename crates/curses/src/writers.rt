@@ -2,7 +2,7 @@
 ghost use Rattle.std.specs.Prelude.{◌≡◌, false, true, ℕ, ⊤, List, Option};
 ghost use Rattle.std.specs.Io.{WritesAtMost};
 ghost use Rattle.std.specs.Io.KnownBytes.{Keeps, WriteAppends};
-ghost use Rattle.curses.specs.Writers.{FlushAnswer, WriteAnswer, WriterView, counted, finished, is_failed_finish, is_failed_put, took_none};
+ghost use Rattle.curses.specs.Writers.{FlushAnswer, WriteAnswer, WriterView, counted, finished, finishes_of, is_failed_finish, is_failed_put, took_none};
 
 use std::io::{Result, Write};
 
@@ -111,13 +111,13 @@ impl<W: Output> Device<W> {
 }
 
 impl<W: Output> Counted for Device<W> {
-    ghost told = { λ d. record { taken = W.holds d.writer; failed_puts = d.failed_puts; finishes = record { asked = d.finishes; failed = d.failed_finishes }; is_open = d.is_open } };
+    ghost told = { λ d. record { taken = W.holds d.writer; failed_puts = d.failed_puts; finishes = finishes_of d.finishes d.failed_finishes; is_open = d.is_open } };
 
     fn put(&mut self, piece: &[u8]) -> Result<usize>
         ensures bound { WritesAtMost result piece.now }
         ensures bytes { WriteAppends (W.holds self.old.writer) (W.holds self.new.writer) result piece.now }
         ensures puts { self.new.failed_puts ≡ counted (is_failed_put piece.now result) self.old.failed_puts }
-        ensures finishes { record { asked = self.new.finishes; failed = self.new.failed_finishes } ≡ record { asked = self.old.finishes; failed = self.old.failed_finishes } }
+        ensures finishes { finishes_of self.new.finishes self.new.failed_finishes ≡ finishes_of self.old.finishes self.old.failed_finishes }
         ensures last { self.new.is_open ≡ true }
         ensures passed { W.writes self.old.writer piece.now result self.new.writer }
     {
@@ -131,7 +131,7 @@ impl<W: Output> Counted for Device<W> {
     fn finish(&mut self) -> Result<()>
         ensures bytes { Keeps (W.holds self.old.writer) (W.holds self.new.writer) }
         ensures puts { self.new.failed_puts ≡ self.old.failed_puts }
-        ensures finishes { record { asked = self.new.finishes; failed = self.new.failed_finishes } ≡ finished (is_failed_finish result) (record { asked = self.old.finishes; failed = self.old.failed_finishes }) }
+        ensures finishes { finishes_of self.new.finishes self.new.failed_finishes ≡ finished (is_failed_finish result) (finishes_of self.old.finishes self.old.failed_finishes) }
         ensures last { self.new.is_open ≡ false }
         ensures passed { W.flushes self.old.writer result self.new.writer }
     {

@@ -20,7 +20,7 @@ use Rattle.curses.specs.declared.faults.OpenFault.{OpenFault}
 use Rattle.curses.specs.declared.faults.OpenFault.TheVariants.{KeyTooLong, NoMemory, Profile}
 use Rattle.huttavel_c.specs.Numbers.{binary_number}
 use Rattle.huttavel_c.specs.Replies.{refused}
-use Rattle.curses.specs.Writers.{WriterView}
+use Rattle.curses.specs.Writers.{WriterView, finishes_of}
 use Rattle.huttavel_c.specs.Sending.{writer}
 use Rattle.huttavel_c.specs.declared.answers.Reply.{Reply}
 use Rattle.huttavel_c.specs.declared.sessions.Kept.{Kept}
@@ -86,7 +86,7 @@ IsNoEntry bytes reply =
 
 -- The writer of a session that was just opened: no bytes wait, and nothing failed.
 abbrev pub fresh_writer : WriterView
-fresh_writer = record { taken = Some []; failed_puts = 0; finishes = record { asked = 0; failed = 0 }; is_open = false }
+fresh_writer = record { taken = Some []; failed_puts = 0; finishes = finishes_of 0 0; is_open = false }
 
 -- A screen just opened as is asked for on a terminal of this size, on its entry as programs take it.
 abbrev pub IsOpenedOn : Opening → Description → Option Size → Session → Type 0

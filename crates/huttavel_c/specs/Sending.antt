@@ -4,7 +4,7 @@ use Rattle.scr_memory.specs.Memories.{forgotten}
 use Rattle.curses.specs.ScreenStates.{ScreenState}
 use Rattle.curses.specs.Starting.{IsClosed, IsNotClosed, IsNotStarted, IsStarted}
 use Rattle.curses.specs.Updates.{IsFailed, IsShown}
-use Rattle.curses.specs.Writers.{WriterView}
+use Rattle.curses.specs.Writers.{WriterView, finishes_of}
 use Rattle.curses.specs.declared.faults.SendFault.{SendFault}
 use Rattle.curses.specs.declared.faults.Sent.{Sent}
 use Rattle.curses.specs.declared.faults.UpdateFault.{UpdateFault}
@@ -20,7 +20,7 @@ abbrev pub writer : Session → WriterView
 writer session = record {
   taken = Some (waiting session);
   failed_puts = session.out.failed_puts;
-  finishes = record { asked = session.out.finishes; failed = session.out.failed_finishes };
+  finishes = finishes_of session.out.finishes session.out.failed_finishes;
   is_open = session.out.is_open;
 }
 
