@@ -1,5 +1,5 @@
 -- Locales, by their names: `LANGUAGE.CODESET` and perhaps `@MODIFIER`. X/Open Base Definitions, 8.2.
-use Rattle.std.specs.Prelude.{ℕ, ◌≡◌, ◌≢◌, ◌<◌, ◌⊎◌, List, [], ◌∷◌, ◌++◌, MatchBool, codes, get_or, length, map}
+use Rattle.std.specs.Prelude.{ℕ, ◌≡◌, ◌≢◌, ◌<◌, ◌⊎◌, List, [], ◌∷◌, ◌++◌, MatchBool, codes, false, get_or, length, map}
 use Rattle.std.specs.Char.{to_ascii_lowercase}
 use Rattle.scr_cells.specs.Characters.{is_utf8}
 use Rattle.scr_keys.specs.declared.sets.KeySet.TheVariants.{All}
@@ -35,7 +35,9 @@ abbrev pub first_named : List ℕ → List ℕ → List ℕ
 first_named [] second = second
 first_named first second = first
 
--- How a screen is opened in the locale of this name: in UTF-8 exactly if the name says so, and with all keys.
+-- How a screen is opened in the locale of this name: in UTF-8 exactly if the name says so, and with all keys. Whether its
+-- terminal may be larger is for its size to say.
 pub record IsOpenedIn (locale : List ℕ) (opening : Opening) : Type 0 where
   pub charset : MatchBool (is_utf8 opening.charset) (SaysUtf8 locale) (¬ SaysUtf8 locale)
   pub keys : opening.keys ≡ All
+  pub larger : opening.is_larger ≡ false
