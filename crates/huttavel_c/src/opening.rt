@@ -1,5 +1,5 @@
 //! Opening and closing.
-ghost use Rattle.std.specs.Prelude.{◌≡◌, IfErr, IfOk, IsErrOf, None, Some};
+ghost use Rattle.std.specs.Prelude.{◌≡◌, IfErr, IfOk, IfSome, IsErrOf, None, Some};
 ghost use Rattle.curses.specs.Adapted.{IsOpenedAdapted, IsUnopenedAdapted, adapted};
 ghost use Rattle.scr_term.specs.Operations.Admission.{IsSuitable};
 ghost use Rattle.ti_caps.specs.Bundled.{IsBundled};
