@@ -94,4 +94,4 @@ IsFull writer (Err kind) = ⊥
 -- Memory ran out in a write that was to take bytes for which there was no room; the writer has only counted the call.
 abbrev pub RanOut : FaultyView → FaultyView → Result ℕ Error → FaultyView × Result ℕ ErrorKind → Type 0
 RanOut old new (Ok value) call = ⊥
-RanOut old new (Err error) call = IsFull old call.1 × (new ≡ called old) × (error_kind error ≡ OutOfMemory)
+RanOut old new (Err error) call = IsFull old call.1 × (new ≡ record (called old) { room = new.room }) × (error_kind error ≡ OutOfMemory)

@@ -1,10 +1,10 @@
 //! A writer for tests, which fails when it is told to. The definitions are in `specs/Faulty.antt`.
-ghost use Rattle.std.specs.Prelude.{◌≡◌, ◌<◌, ◌⊎◌, [], Some, vec_capacity};
+ghost use Rattle.std.specs.Prelude.{◌≡◌, ◌≤◌, ◌<◌, ◌+◌, ◌++◌, ◌⊎◌, [], OnErr, OnOk, Some, length, take, vec_capacity};
 ghost use Rattle.std.specs.Io.{WritesAtMost};
 ghost use Rattle.std.specs.Io.KnownBytes.{Keeps, WriteAppends};
 ghost use Rattle.screen_sessions.specs.Faulty.{IsAnswered, RanOut, called, failed_once, flush_call, going_on, is_due, room_for, with_faults, write_call};
 
-use std::alloc::Global;
+use std::alloc::{AllocError, Global};
 use std::io;
 use std::io::{ErrorKind, Write};
 use std::marker::Model;
@@ -118,13 +118,24 @@ impl Faulty {
 
     // How many of `bytes` bytes it takes when it does not fail.
     fn room_for(&self, bytes: usize) -> usize
-        ensures { result ≡ room_for self.now bytes }
+        ensures value { result ≡ room_for self.now bytes }
+        ensures few { result ≤ bytes }
     {
         if self.taken.len() < self.fault.limit {
             bytes.min(self.fault.limit - self.taken.len())
         } else {
             bytes
         }
+    }
+
+    // Takes the first bytes of a piece.
+    fn take(&mut self, piece: &[u8], count: usize) -> Result<(), AllocError>
+        requires { count ≤ length piece.now }
+        ensures ok { OnOk result (self.new ≡ record self.old { taken = self.old.taken ++ take count piece.now; room = self.new.room }) }
+        ensures err { OnErr result (self.new ≡ record self.old { room = self.new.room }) }
+        ensures full { OnErr result (self.old.room < length self.old.taken + count) }
+    {
+        self.taken.extend_from_slice(&piece[..count])
     }
 
     // Counts a call.
@@ -174,7 +185,7 @@ impl Write for Faulty {
             };
         }
         let count = self.room_for(piece.len());
-        self.taken.extend_from_slice(&piece[..count])?;
+        self.take(piece, count)?;
         Ok(count)
     }
 
