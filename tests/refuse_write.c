@@ -1,7 +1,9 @@
-// Loaded before the C library, makes writes of a program to its standard output fail, and tells it a new size of its
-// terminal at the end of its input. The environment says how:
+// Loaded before the C library, makes writes of a program to its standard output and at places of files fail, and tells it
+// a new size of its terminal at the end of its input. The environment says how:
 //
 // - REFUSED_WRITE=N: the Nth write fails, with EIO; with REFUSED_FROM set, each one from there on does.
+// - REFUSED_PLACED=N: the Nth write at a place of a file (pwrite) writes half of its bytes, and the next fails, with EIO;
+//   with REFUSED_FROM set, each one from there on does.
 // - REFUSED_MARK: the file of this name is there from the first write on that failed.
 // - BYTES_READ=N: a read of the standard input gives at most so many bytes.
 // - SIZE_FROM, SIZE_TO: where a read finds the end of the standard input, the file SIZE_FROM gets the name SIZE_TO.
@@ -13,9 +15,9 @@ extern int creat(const char *path, unsigned int mode);
 extern int close(int descriptor);
 extern int rename(const char *from, const char *to);
 
-enum { READ = 0, WRITE = 1, FAILED = 5 };
+enum { READ = 0, WRITE = 1, FAILED = 5, PWRITE = 18 };
 
-static long writes;
+static long writes, placed;
 
 static long number_in(const char *name) {
     const char *text = getenv(name);
@@ -37,6 +39,21 @@ long write(int descriptor, const void *bytes, unsigned long count) {
         close(creat(mark, 0644));
     *__errno_location() = FAILED;
     return -1;
+}
+
+long pwrite(int descriptor, const void *bytes, unsigned long count, long place) {
+    long refused = number_in("REFUSED_PLACED");
+    placed++;
+    if (refused && placed == refused)
+        count /= 2;
+    if (!refused || placed <= refused || (placed > refused + 1 && !getenv("REFUSED_FROM")))
+        return syscall(PWRITE, descriptor, bytes, count, place);
+    *__errno_location() = FAILED;
+    return -1;
+}
+
+long pwrite64(int descriptor, const void *bytes, unsigned long count, long place) {
+    return pwrite(descriptor, bytes, count, place);
 }
 
 long read(int descriptor, void *bytes, unsigned long count) {

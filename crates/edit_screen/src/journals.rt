@@ -1,5 +1,5 @@
-//! A journal: a file of the changes that were made to a text since its own file had it. It is appended to at each key
-//! that changes the text, so that a text which was not saved can be made again where the editor was killed.
+//! A journal: a file of the changes that were made to a text since its own file had it. It is appended to
+//! before changes are shown, so that a text which was not saved can be made again where the editor was killed.
 //!
 //! Its first line says what the file had, `edit journal 1 of LENGTH HASH`, or `edit journal 1 of nothing` where there
 //! was no file; then come the lines of `Notes`. Its editor holds a lock on it, which goes with the editor.

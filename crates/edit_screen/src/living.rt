@@ -10,11 +10,11 @@ use terminal::{Event, Program};
 /// After so many tenths of a second without a key it is looked what is to be kept of a changed text.
 const WAIT: u32 = 20;
 
-/// A text whose changes no journal takes is copied after so many of them.
+/// While keys go on coming and nothing is shown, changes are kept after so many of them.
 const MOST_CHANGES: u32 = 20;
 
-/// And it is copied after so many milliseconds: with the tenth of a second that a read of the keyboard takes, three
-/// seconds.
+/// And they are kept after so many milliseconds: with the tenth of a second that a read of the keyboard takes, three
+/// seconds. A text whose changes no journal takes is copied as often.
 const MOST_MILLISECONDS: u64 = 2900;
 
 /// An editor, and what it is run on and for.
@@ -26,7 +26,7 @@ pub(crate) struct Session<'a> {
     pub(crate) editor: &'a mut Editor,
     // Whether a text that was not saved is kept; a script's is not.
     keeps: bool,
-    // When the first change was made that no journal took, and no copy has.
+    // When the first change was made that is not kept.
     since: Option<Instant>,
     // Whether the screen is a new one.
     is_new: bool,
@@ -69,12 +69,13 @@ impl<'a> Session<'a> {
             self.editor.pause();
         } else if self.keeps {
             self.editor.look_at_file(self.rt, self.path);
+            self.keep_at_once();
             self.keep();
             self.editor.sync_kept();
         }
     }
 
-    // Does what a key or a character asks for, and keeps what it changed. Answers whether the editor goes on.
+    // Does what a key or a character asks for. Answers whether the editor goes on.
     fn answer_request(&mut self, request: Request) -> bool {
         match request {
             Request::Leave => {
@@ -90,12 +91,21 @@ impl<'a> Session<'a> {
         true
     }
 
-    // Keeps what was changed: in the journal at once, or in a copy from time to time.
-    fn keep(&mut self) {
+    // Keeps what was changed in the journal, if that is possible.
+    fn keep_at_once(&mut self) {
         if !self.editor.is_to_keep() || self.editor.keep_changes(self.rt, self.path) {
             self.since = None;
+        }
+    }
+
+    // Keeps what was changed, if it is much or waits for long: in the journal, or in a copy.
+    fn keep(&mut self) {
+        if !self.editor.is_to_keep() {
+            self.since = None;
         } else if self.editor.notes.count() >= MOST_CHANGES || self.is_late() {
-            self.editor.keep_text(self.rt, self.path);
+            if !self.editor.keep_changes(self.rt, self.path) {
+                self.editor.keep_text(self.rt, self.path);
+            }
             self.since = None;
         }
     }
@@ -127,6 +137,10 @@ impl Program for Session<'_> {
         if self.repaints {
             screen.clear_ok(Win(0), true)?;
             self.repaints = false;
+        }
+        // What is shown is kept.
+        if self.keeps {
+            self.keep_at_once();
         }
         draw(screen, self.editor);
         Ok(())

@@ -10,7 +10,10 @@ use crate::shelves::put_aside;
 use edit_text::Text;
 use std::fs;
 use std::fs::File;
-use std::io::ErrorKind;
+use std::io::{ErrorKind, Read};
+
+// What each journal begins with, of whatever version.
+const BEGINNING: [u8; 12] = *b"edit journal";
 
 /// A file, and what it has.
 #[derive(Clone, Copy)]
@@ -33,8 +36,8 @@ enum Remade {
     Nothing,
 }
 
-/// Makes texts of a file again that were not saved, and puts them aside. Gives what is to be said of the first, if there
-/// is one. Journals that cannot be used stay.
+/// Makes texts of a file again that were not saved, and puts them aside. Gives what is to be said of the first, if
+/// there is one. Journals that cannot be used stay.
 ///
 /// Refused if memory runs out for names.
 pub(crate) fn recovered(rt: &HostRuntime, base: &Base<'_>) -> Result<Option<Said>, SaveFault> {
@@ -68,11 +71,28 @@ fn recovered_beside(
 
 // Does so with one journal, unless its editor still runs.
 fn recovered_from(rt: &HostRuntime, name: String, base: &Base<'_>) -> Option<Said> {
+    if !is_journal(rt, name.as_str()) {
+        return None;
+    }
     match File::open(rt, name.as_str()) {
         Ok(file) if is_lockable(&file) => settled(rt, name, base),
         Ok(_) => Some(Said::of(Message::ChangedElsewhere, name)),
         Err(error) if error.kind() == ErrorKind::NotFound => None,
         Err(_) => Some(Said::of(Message::NotRecovered, name)),
+    }
+}
+
+// Whether a file begins as journals do, or cannot be opened. Other files of such a name are let alone; a pipe is not
+// even opened, since that may wait.
+fn is_journal(rt: &HostRuntime, name: &str) -> bool {
+    match fs::metadata(rt, name) {
+        Ok(metadata) if metadata.is_file() => {}
+        _ => return false,
+    }
+    let mut beginning = [0; BEGINNING.len()];
+    match File::open(rt, name) {
+        Ok(mut file) => file.read_exact(&mut beginning).is_ok() && beginning == BEGINNING,
+        Err(_) => true,
     }
 }
 
@@ -94,14 +114,10 @@ fn put(rt: &HostRuntime, name: String, base: &Base<'_>, bytes: &[u8], message: M
     let Ok(recovered) = put_aside(rt, base.path, "recovered", bytes) else {
         return Said::of(Message::NotRecovered, name);
     };
-    match free_name(rt, name.as_str(), "damaged") {
-        Ok(damaged) if message == Message::RecoveredInPart => {
-            let _ = fs::rename(rt, name.as_str(), damaged.as_str());
-        }
-        Ok(_) => {
-            let _ = fs::remove_file(rt, name.as_str());
-        }
-        Err(_) => {}
+    if message == Message::Recovered {
+        let _ = fs::remove_file(rt, name.as_str());
+    } else if let Ok(damaged) = free_name(rt, name.as_str(), "damaged") {
+        let _ = fs::rename(rt, name.as_str(), damaged.as_str());
     }
     Said::of(message, recovered)
 }
