@@ -14,9 +14,9 @@ use ti_caps::{Entry, Slot, slots};
 use ti_param::stripped_length;
 
 /// An entry as programs take it, so that more terminals are served than with the entry as it is: colours come before
-/// the attributes that they exclude (`Entry::colours_first`), unless no colours come of it since one of their texts sends
-/// nothing, and where a character in the last column would scroll the
-/// screen, that column is left out (`Entry::without_last_column`).
+/// the attributes that they exclude (`Entry::colours_first`), unless no colours come of it since one of their texts
+/// sends nothing, and where a character in the last column would scroll the screen, that column is left out
+/// (`Entry::without_last_column`).
 #[derive(Drop)]
 pub struct AdaptedEntry {
     entry: Entry,
