@@ -1,5 +1,6 @@
 //! Finding an entry among the files of the system, for programs.
 ghost use Rattle.std.specs.Prelude.{◌≡◌, ℕ, List, ◌⊎◌, ◌↔◌, IfErr, IfOk, IsErrOf, Option, Some, false};
+ghost use Rattle.ti_database.specs.Environment.{variable_said, variables_said};
 ghost use Rattle.ti_database.specs.Places.{first_folder_of, is_terminal_name, paths_of};
 ghost use Rattle.ti_database.specs.Search.{IsFound, search_fault};
 ghost use Rattle.ti_database.specs.declared.folders.Variables.{Variables};
@@ -61,18 +62,34 @@ pub fn first_folder<R: Env + AllocGlobal>(rt: &R) -> Result<FilePath, DatabaseFa
 fn variables_of<R: Env + AllocGlobal>(rt: &R) -> Result<Variables, DatabaseFault>
     ensures { IfErr result (λ fault. fault ≡ DatabaseFault.NoMemory) }
 {
+    let terminfo = env::var(rt, "TERMINFO");
+    let home = env::var(rt, "HOME");
+    let terminfo_dirs = env::var(rt, "TERMINFO_DIRS");
+    variables_said(terminfo, home, terminfo_dirs)
+}
+
+// The variables where the environment said this of each.
+fn variables_said(
+    terminfo: Result<String, VarError>,
+    home: Result<String, VarError>,
+    terminfo_dirs: Result<String, VarError>,
+) -> Result<Variables, DatabaseFault>
+    ensures said { result ≡ variables_said terminfo home terminfo_dirs }
+    ensures fault { IfErr result (λ fault. fault ≡ DatabaseFault.NoMemory) }
+{
     Ok(Variables {
-        terminfo: variable(rt, "TERMINFO")?,
-        home: variable(rt, "HOME")?,
-        terminfo_dirs: variable(rt, "TERMINFO_DIRS")?,
+        terminfo: variable_said(terminfo)?,
+        home: variable_said(home)?,
+        terminfo_dirs: variable_said(terminfo_dirs)?,
     })
 }
 
-// The bytes of a variable; `None` if it is not set, or not UTF-8.
-fn variable<R: Env + AllocGlobal>(rt: &R, name: &str) -> Result<Option<Bytes>, DatabaseFault>
-    ensures { IfErr result (λ fault. fault ≡ DatabaseFault.NoMemory) }
+// The bytes of a variable of which the environment said this; `None` if it is not set, or not UTF-8.
+fn variable_said(said: Result<String, VarError>) -> Result<Option<Bytes>, DatabaseFault>
+    ensures said { result ≡ variable_said said }
+    ensures fault { IfErr result (λ fault. fault ≡ DatabaseFault.NoMemory) }
 {
-    match env::var(rt, name) {
+    match said {
         Ok(text) => Ok(Some(Bytes(text.into_bytes()))),
         Err(VarError::OutOfMemory) => Err(DatabaseFault::NoMemory),
         Err(_) => Ok(None),
