@@ -19,7 +19,7 @@ use crate::plan_laws::{joined_is_cheap, plans_are_made, plans_are_remembered};
 use crate::scenes::{Scene, Update};
 use crate::short_plan::{short_anew, short_changes};
 use crate::strokes::Draft;
-use crate::unknown_rows::short_partly;
+use crate::unknown_rows::{is_clearing_best, short_partly};
 use scr_cells::{Look, NoMemory, Pen, grid_laws};
 use scr_memory::{Memory, known_memories, memory_runs};
 use scr_prices::RowChange;
@@ -175,6 +175,9 @@ fn anew_or_partly(alloc: Global, update: &Update<'_>) -> Result<Ops, NoMemory>
 {
     let whole = anew(alloc, update)?;
     if update.wanted.repaint() || !may_be(update.scene.profile, update.memory) {
+        return Ok(whole);
+    }
+    if is_clearing_best(update.scene.profile, update.memory) {
         return Ok(whole);
     }
     partly_if_shorter(alloc, update, whole)

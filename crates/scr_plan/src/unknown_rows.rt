@@ -122,6 +122,27 @@ fn is_cheaper_at_once(profile: &Profile, count: u32) -> bool {
     prices.of(Op::EraseBelow) < lines.saturating_add(steps)
 }
 
+// Whether clearing the screen takes no more bytes than erasing all of its rows: no row is known, and what is painted
+// then is the same.
+pub(crate) fn is_clearing_best(profile: &Profile, memory: &Memory) -> bool {
+    let rows = memory.size().rows;
+    if first_of_last_unknown(memory) > 0 {
+        return false;
+    }
+    let by = if is_cheaper_at_once(profile, rows) {
+        Op::EraseBelow
+    } else {
+        Op::EraseLine
+    };
+    let erasing = bytes_of(profile, Op::Move(0, 0)).saturating_add(bytes_of(profile, by));
+    bytes_of(profile, Op::Clear) <= erasing
+}
+
+// The number of bytes of an operation; more than any other where the terminal lacks it.
+fn bytes_of(profile: &Profile, op: Op) -> usize {
+    profile.cost(op).unwrap_or(usize::MAX)
+}
+
 impl Draft {
     // Erases each row that is not known, the last ones at once if that is cheaper. Returns whether
     // that was possible.
