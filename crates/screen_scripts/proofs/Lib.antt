@@ -1,7 +1,4 @@
-pub mod CutLaws
-pub mod FieldLaws
 pub mod LineLaws
-pub mod NumberLaws
 pub mod MakingLaws
 pub mod StageLaws
 pub mod OutputLaws

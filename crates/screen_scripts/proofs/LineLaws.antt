@@ -2,7 +2,8 @@
 use Rattle.std.proofs.Common.{◌≡◌, ◌≢◌, ℕ, ◌<◌, ◌==◌, refl, sym, ◌∙◌, ap, arith, List, [], ◌∷◌, length, Option, Some, None, unwrap_or}
 use Rattle.std.specs.List.{slice_split}
 use Rattle.std.proofs.lemmas.List.Splits.{length-slice_split}
-use Rattle.screen_scripts.specs.Lines.{lines_of, parts_after, without_empty_end}
+use Rattle.screen_scripts.specs.Lines.{lines_of, without_empty_end}
+use Rattle.screen_sessions.specs.Fields.{parts_after}
 
 -- ---- lines
 

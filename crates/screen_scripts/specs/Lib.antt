@@ -1,5 +1,4 @@
 pub mod Lines
-pub mod Fields
 pub mod Commands
 pub mod Stories
 pub mod Printing

@@ -1,5 +1,5 @@
 -- The lines of a script.
-use Rattle.std.specs.Prelude.{ℕ, ◌==◌, List, [], ◌∷◌, Option, Some, None}
+use Rattle.std.specs.Prelude.{ℕ, ◌==◌, List, [], ◌∷◌}
 use Rattle.std.specs.List.{slice_split}
 
 -- what stands after the last line's end is a line of its own, unless it is nothing
@@ -11,8 +11,3 @@ without_empty_end (part ∷ parts) = part ∷ without_empty_end parts
 -- a line ends at LF or at the end of the script
 abbrev pub lines_of : List ℕ → List (List ℕ)
 lines_of script = without_empty_end (slice_split (λ b. b == 10) script)
-
--- the parts of a text that follow such a byte, where there is one
-abbrev pub parts_after : ℕ → Option (List ℕ) → List (List ℕ)
-parts_after byte None = []
-parts_after byte (Some rest) = slice_split (λ b. b == byte) rest

@@ -1,16 +1,15 @@
 //! Commands: reading a line of a script.
-ghost use Rattle.std.specs.Prelude.{◌≡◌, Some, None, IfOk, IsErrOf};
+ghost use Rattle.std.specs.Prelude.{◌≡◌, None, Some, IfOk, IsErrOf};
 ghost use Rattle.std.specs.Option.{option_copied};
-ghost use Rattle.screen_scripts.specs.Commands.{command_of, addition, text_call, string_command, background_call, pair_call, setting_call, scroll_call, key_bytes};
+ghost use Rattle.screen_scripts.specs.Commands.{addition, command_of, key_bytes, size_read, string_command, word_alone};
+ghost use Rattle.screen_sessions.specs.Fields.{number as number_of};
+ghost use Rattle.screen_sessions.specs.Reading.{IsRefused, read};
 
 use crate::LineFault;
-use crate::fields::{
-    background, copied, cut_field, hexadecimal_bytes, integer, number_and_text, setting,
-    two_colours,
+use screen_sessions::{
+    Call, CallFault, Reason, copied, count_fault_of, cut_field, field_and_text, hexadecimal_bytes,
+    number, read_call,
 };
-use crate::numbered::numbered_command;
-use scr_windows::Win;
-use screen_sessions::Call;
 use std::alloc::Global;
 use ti_caps::Bytes;
 
@@ -33,107 +32,110 @@ pub enum Command {
     Idle,
 }
 
-/// Reads a line of a script: a word, followed by a blank and its arguments if it has any.
+/// Reads a line of a script: a word, followed by a blank and its arguments if it has any. Beside the words here these
+/// are the short names of calls (`screen_sessions::read_call`).
 ///
-/// Fields are separated by one blank. A text is everything after the blank before it, and may be
-/// empty. A number is written in decimal digits and below 2^32; leading zeros are allowed. Windows,
-/// places and pairs that do not exist are left for the calls to refuse.
+/// Refused with the first thing that is wrong with the line, and if memory runs out.
+#[tactic(auto, unfolding(crate::specs::Commands::command_of))]
+pub fn parse_command<'a>(alloc: Global, line: &'a [u8]) -> Result<Command, CallFault<'a>>
+    ensures ok { IfOk result (λ command. command_of line.now ≡ Some command) }
+    ensures bad { IsRefused result → command_of line.now ≡ None }
+{
+    let (word, text) = cut_field(line);
+    if word == b"size".as_slice() {
+        Ok(size(text)?)
+    } else if word == b"add".as_slice() {
+        addition(alloc, text)
+    } else if word == b"text".as_slice() {
+        string_command(alloc, text)
+    } else if word == b"key".as_slice() {
+        key_bytes(alloc, text)
+    } else if word == b"show".as_slice() {
+        Ok(alone(Command::Show, text)?)
+    } else if word == b"idle".as_slice() {
+        Ok(alone(Command::Idle, text)?)
+    } else {
+        Ok(Command::Make(read_call(alloc, line)?))
+    }
+}
+
+/// Reads a line of a script as `parse_command` does.
 ///
 /// Refused with [`LineFault::Bad`] if the line is not a command, with [`LineFault::NoMemory`] if
 /// memory runs out.
-#[tactic(auto, unfolding(crate::specs::Commands::command_of, crate::specs::Commands::with_text))]
 pub fn read_command(alloc: Global, line: &[u8]) -> Result<Command, LineFault>
     ensures ok { IfOk result (λ command. command_of line.now ≡ Some command) }
     ensures bad { IsErrOf result LineFault.Bad → command_of line.now ≡ None }
 {
-    let (word, text) = cut_field(line);
-    if word == b"add".as_slice() {
-        addition(alloc, text)
-    } else if word == b"put".as_slice() {
-        text_call(alloc, text)
-    } else if word == b"text".as_slice() {
-        string_command(alloc, text)
-    } else if word == b"bkgd".as_slice() {
-        background_call(text).ok_or(LineFault::Bad)
-    } else if word == b"pair".as_slice() {
-        pair_call(text).ok_or(LineFault::Bad)
-    } else if word == b"scrollok".as_slice() {
-        setting_call(text).ok_or(LineFault::Bad)
-    } else if word == b"scroll".as_slice() {
-        scroll_call(text).ok_or(LineFault::Bad)
-    } else if word == b"key".as_slice() {
-        key_bytes(alloc, text)
-    } else {
-        numbered_command(word, text).ok_or(LineFault::Bad)
+    match parse_command(alloc, line) {
+        Ok(command) => Ok(command),
+        Err(CallFault::Bad(_)) => Err(LineFault::Bad),
+        Err(CallFault::NoMemory) => Err(LineFault::NoMemory),
+    }
+}
+
+// `size R C`.
+fn size<'a>(text: Option<&'a [u8]>) -> Result<Command, Reason<'a>>
+    ensures { read result ≡ size_read (option_copied text.entry) }
+{
+    let (rows, columns) = field_and_text(text)?;
+    match cut_field(columns) {
+        (columns, None) => Ok(Command::Size(extent(rows)?, extent(columns)?)),
+        (_, Some(_)) => Err(count_fault_of(text)),
+    }
+}
+
+// A number of rows or columns.
+fn extent<'a>(field: &'a [u8]) -> Result<u32, Reason<'a>>
+    ensures { read result ≡ number_of field.now }
+{
+    match number(field) {
+        Ok(number) => Ok(number),
+        Err(Reason::OutOfRange) => Err(Reason::WrongSize),
+        Err(reason) => Err(reason),
+    }
+}
+
+// A word with nothing behind it.
+fn alone<'a>(command: Command, text: Option<&'a [u8]>) -> Result<Command, Reason<'a>>
+    ensures { read result ≡ word_alone command (option_copied text.entry) }
+{
+    match text {
+        None => Ok(command),
+        Some(_) => Err(count_fault_of(text)),
     }
 }
 
 // `add R C TEXT`.
-fn addition(alloc: Global, text: Option<&[u8]>) -> Result<Command, LineFault>
+fn addition<'a>(alloc: Global, text: Option<&'a [u8]>) -> Result<Command, CallFault<'a>>
     ensures ok { IfOk result (λ command. addition (option_copied text.entry) ≡ Some command) }
-    ensures bad { IsErrOf result LineFault.Bad → addition (option_copied text.entry) ≡ None }
+    ensures bad { IsRefused result → addition (option_copied text.entry) ≡ None }
 {
-    let (row, rest) = number_and_text(text).ok_or(LineFault::Bad)?;
-    let (column, added) = number_and_text(Some(rest)).ok_or(LineFault::Bad)?;
+    let (row, rest) = field_and_text(text)?;
+    let Ok((column, added)) = field_and_text(Some(rest)) else {
+        return Err(CallFault::Bad(count_fault_of(text)));
+    };
+    let (row, column) = (number(row)?, number(column)?);
     Ok(Command::Add(row, column, copied(alloc, added)?))
 }
 
-// `put W TEXT`.
-fn text_call(alloc: Global, text: Option<&[u8]>) -> Result<Command, LineFault>
-    ensures ok { IfOk result (λ command. text_call (option_copied text.entry) ≡ Some command) }
-    ensures bad { IsErrOf result LineFault.Bad → text_call (option_copied text.entry) ≡ None }
-{
-    let (window, added) = number_and_text(text).ok_or(LineFault::Bad)?;
-    Ok(Command::Make(Call::AddText(Win(window), copied(alloc, added)?)))
-}
-
 // `text W TEXT`.
-fn string_command(alloc: Global, text: Option<&[u8]>) -> Result<Command, LineFault>
+fn string_command<'a>(alloc: Global, text: Option<&'a [u8]>) -> Result<Command, CallFault<'a>>
     ensures ok { IfOk result (λ command. string_command (option_copied text.entry) ≡ Some command) }
-    ensures bad { IsErrOf result LineFault.Bad → string_command (option_copied text.entry) ≡ None }
+    ensures bad { IsRefused result → string_command (option_copied text.entry) ≡ None }
 {
-    let (window, added) = number_and_text(text).ok_or(LineFault::Bad)?;
+    let (window, added) = field_and_text(text)?;
+    let window = number(window)?;
     Ok(Command::Text(window, copied(alloc, added)?))
 }
 
-// `bkgd W BYTE N`.
-fn background_call(text: Option<&[u8]>) -> Option<Command>
-    ensures { result ≡ background_call (option_copied text.entry) }
-{
-    let (window, rest) = number_and_text(text)?;
-    Some(Command::Make(Call::ChangeBackground(Win(window), background(rest)?)))
-}
-
-// `pair N F B`.
-fn pair_call(text: Option<&[u8]>) -> Option<Command>
-    ensures { result ≡ pair_call (option_copied text.entry) }
-{
-    let (pair, rest) = number_and_text(text)?;
-    let (foreground, background) = two_colours(rest)?;
-    Some(Command::Make(Call::SetPairOf(pair, foreground, background)))
-}
-
-// `scrollok W 0|1`.
-fn setting_call(text: Option<&[u8]>) -> Option<Command>
-    ensures { result ≡ setting_call (option_copied text.entry) }
-{
-    let (window, rest) = number_and_text(text)?;
-    Some(Command::Make(Call::ScrollOk(Win(window), setting(rest)?)))
-}
-
-// `scroll W N`.
-fn scroll_call(text: Option<&[u8]>) -> Option<Command>
-    ensures { result ≡ scroll_call (option_copied text.entry) }
-{
-    let (window, rest) = number_and_text(text)?;
-    Some(Command::Make(Call::Scroll(Win(window), integer(rest)?)))
-}
-
 // `key HH ..`.
-fn key_bytes(alloc: Global, text: Option<&[u8]>) -> Result<Command, LineFault>
+fn key_bytes<'a>(alloc: Global, text: Option<&'a [u8]>) -> Result<Command, CallFault<'a>>
     ensures ok { IfOk result (λ command. key_bytes (option_copied text.entry) ≡ Some command) }
-    ensures bad { IsErrOf result LineFault.Bad → key_bytes (option_copied text.entry) ≡ None }
+    ensures bad { IsRefused result → key_bytes (option_copied text.entry) ≡ None }
 {
-    let digits = text.ok_or(LineFault::Bad)?;
-    Ok(Command::Key(hexadecimal_bytes(alloc, digits)?))
+    match text {
+        Some(digits) => Ok(Command::Key(hexadecimal_bytes(alloc, digits)?)),
+        None => Err(CallFault::Bad(Reason::WrongCount)),
+    }
 }

@@ -1,13 +1,11 @@
 -- The first field of a text, and what its fields spell.
-use Rattle.std.proofs.Common.{◌≡◌, ℕ, zero, suc, ◌+◌, ◌<◌, eqb, true, refl, sym, ◌∙◌, ap, arith, List, [], ◌∷◌, ◌++◌, length, take, get_or, Option, Some, None}
+use Rattle.std.proofs.Common.{◌≡◌, ℕ, zero, suc, ◌+◌, ◌<◌, eqb, true, false, map, ◌≤◌, refl, sym, ◌∙◌, ap, arith, List, [], ◌∷◌, ◌++◌, length, take, get_or, Option, Some, None}
 use Rattle.std.specs.Prelude.{option_and_then, option_map}
 use Rattle.std.specs.List.{slice_split, join_with_byte}
 use Rattle.std.proofs.lemmas.Bool.Decides.{nat_tests}
-use Rattle.std.proofs.lemmas.List.{take_more, take_all}
+use Rattle.std.proofs.lemmas.List.{map-append, take_more, take_all}
 use Rattle.std.proofs.lemmas.List.Splits.{length-slice_split, join_with_byte-slice_split}
-use Rattle.screen_scripts.specs.Lines.{parts_after}
-use Rattle.screen_scripts.specs.Fields.{fields_of, first_and_rest, cut, each, number}
-use Rattle.screen_scripts.specs.Commands.{numbered}
+use Rattle.screen_sessions.specs.Fields.{fields_of, first_and_rest, cut, each, parts_after}
 
 some_field : (text : List ℕ) → 0 < length (fields_of text)
 some_field text = omega (arith, length-slice_split (λ b. eqb b 32) text)
@@ -72,24 +70,17 @@ each_stops f fields field i inside is e = each_none f fields i field inside (ap 
 pub each_all : {A : Type 0} (f : List ℕ → Option A) (fields : List (List ℕ)) (i : ℕ) → i ≡ length fields → each f (take i fields) ≡ each f fields
 each_all f fields i e = ap (each f) (take_all i fields (omega arith))
 
-each_length : {A : Type 0} (f : List ℕ → Option A) (fields : List (List ℕ)) (xs : List A) → each f fields ≡ Some xs → length xs ≡ length fields
-each_length f [] xs e = let none : [] ≡ xs = cc in omega (arith, ap length none)
-each_length {A} f (field ∷ fields) xs e =
-    let parts = first_and_some (f field) (each f fields) xs e in
-    omega (arith, each_length f fields parts.1 parts.3, ap length parts.4)
+-- one field more of those that are taken, as each is seen
+pub taken_more : {A : Type 0} (f : A → List ℕ) (fields : List (List ℕ)) (xs : List A) (x : A) (i : ℕ) → i < length fields
+    → f x ≡ get_or fields i (f x) → map f xs ≡ take i fields → map f (xs ++ x ∷ []) ≡ take (i + 1) fields
+taken_more f fields xs x i inside is e =
+    map-append f xs (x ∷ []) ∙ ap (λ ys. ys ++ f x ∷ []) e
+    ∙ sym (take_more fields i (f x) inside ∙ ap (λ p. take i fields ++ p ∷ []) (sym is))
 
-long_says_nothing : (word numbers : List ℕ) → 8 < length numbers → numbered word numbers ≡ None
-unfolding numbered
-long_says_nothing word (a ∷ b ∷ c ∷ d ∷ e ∷ f ∷ g ∷ h ∷ i ∷ numbers) long = refl
-long_says_nothing word numbers long = absurd (omega arith)
+-- all fields, where they are no more than are taken
+pub taken_all : (fields : List (List ℕ)) (i most : ℕ) → i ≡ length fields → i ≤ most → take i fields ≡ take most fields
+taken_all fields i most whole few = take_all i fields (omega arith) ∙ sym (take_all most fields (omega arith))
 
-says_nothing : (word : List ℕ) (all : Option (List ℕ)) → ((numbers : List ℕ) → all ≡ Some numbers → 8 < length numbers) → option_and_then (numbered word) all ≡ None
-says_nothing word None long = refl
-says_nothing word (Some numbers) long = long_says_nothing word numbers (long numbers refl)
-
--- no word goes with more than eight numbers
-pub too_many : (word : List ℕ) (fields : List (List ℕ)) → 8 < length fields → option_and_then (numbered word) (each number fields) ≡ None
-too_many word fields long = says_nothing word (each number fields) (λ numbers e. omega (arith, each_length number fields numbers e))
-
-pub same_length : (m n : ℕ) → eqb m n ≡ true → m ≡ n
-same_length m n h = grind (arith, nat_tests)
+-- a list that has not as many elements as it has room for has room for one more
+pub has_room : (n most : ℕ) → eqb n most ≡ false → n ≤ most → n + 1 ≤ most
+has_room n most other few = grind (arith, nat_tests)

@@ -1,14 +1,22 @@
 -- The fields of a line, and what they spell.
-use Rattle.std.specs.Prelude.{ℕ, ℤ, pos, neg_ℤ, ◌+◌, ◌*◌, ◌^◌, ◌==◌, ◌&&◌, nat_le, nat_lt, Bool, true, false, List, [], ◌∷◌, length, Option, Some, None, option_and_then, option_map, codes, if◌then◌else◌}
+use Rattle.std.specs.Prelude.{ℕ, ℤ, pos, neg_ℤ, ◌+◌, ◌*◌, ◌^◌, ◌==◌, ◌&&◌, nat_le, nat_lt, Bool, true, false, List, [], ◌∷◌, length, take, Option, Some, None, option_and_then, option_map, codes, if◌then◌else◌}
 use Rattle.std.specs.List.{join_with_byte, list_all, slice_split}
 use Rattle.std.specs.Char.{is_ascii_digit, digit_value}
 use Rattle.std.specs.Str.{bytes_eq}
 use Rattle.std.specs.Str.Parse.{digits_value}
-use Rattle.scr_cells.specs.CellViews.{CellView}
+
+-- the parts of a text that follow such a byte, where there is one
+abbrev pub parts_after : ℕ → Option (List ℕ) → List (List ℕ)
+parts_after byte None = []
+parts_after byte (Some rest) = slice_split (λ b. b == byte) rest
 
 -- the fields of a text are divided by one blank
 abbrev pub fields_of : List ℕ → List (List ℕ)
 fields_of text = slice_split (λ b. b == 32) text
+
+-- the fields behind a word; ten of them where there are more, which no call takes
+unfoldable pub fields_behind : Option (List ℕ) → List (List ℕ)
+fields_behind text = take 10 (parts_after 32 text)
 
 -- the first field, and the text after the blank that follows it, where one does
 abbrev pub first_and_rest : List (List ℕ) → List ℕ × Option (List ℕ)
@@ -31,14 +39,13 @@ number digits =
     then Some (digits_value 10 digits)
     else None
 
--- the numbers of a text, where there is one
-unfoldable pub numbers : Option (List ℕ) → Option (List ℕ)
-numbers None = Some []
-numbers (Some text) = each number (fields_of text)
+-- a number up to a greatest one
+abbrev pub up_to : ℕ → List ℕ → Option ℕ
+up_to most digits = option_and_then (λ n. if nat_le n most then Some n else None) (number digits)
 
--- a number, and the text after the blank that follows it
-unfoldable pub number_and_text : Option (List ℕ) → Option (ℕ × List ℕ)
-number_and_text text = option_and_then (λ t. option_and_then (λ n. option_map (λ rest. (n, rest)) (cut t).1) (number (cut t).0)) text
+-- the first field, and the text after the blank that follows it, where one does
+unfoldable pub field_and_text : Option (List ℕ) → Option (List ℕ × List ℕ)
+field_and_text text = option_and_then (λ t. option_map (λ rest. ((cut t).0, rest)) (cut t).1) text
 
 -- a number of 32 bits with a sign, which is `-` or none
 unfoldable pub integer : List ℕ → Option ℤ
@@ -52,23 +59,14 @@ integer (first ∷ rest) =
 unfoldable pub setting : List ℕ → Option Bool
 setting text = if bytes_eq text (codes "0") then Some false else (if bytes_eq text (codes "1") then Some true else None)
 
--- a cell: a character, 33 to 126, and the number of an attribute set
-abbrev pub cell_of : List ℕ → ℕ → Option CellView
-cell_of (byte ∷ []) attrs =
-    if nat_le 33 byte && nat_le byte 126 && nat_le attrs 127 then Some (record { character = byte; attrs = attrs; pair = 0 }) else None
-cell_of text attrs = None
-
-unfoldable pub background : List ℕ → Option CellView
-background text = option_and_then (λ rest. option_and_then (cell_of (cut text).0) (number rest)) (cut text).1
+-- a character that prints, 33 to 126
+unfoldable pub graphic : List ℕ → Option ℕ
+graphic (byte ∷ []) = if nat_le 33 byte && nat_le byte 126 then Some byte else None
+graphic _ = None
 
 -- a colour by its number, or `-` for the terminal's default
 unfoldable pub colour : List ℕ → Option (Option ℕ)
 colour text = if bytes_eq text (codes "-") then Some None else option_map (λ n. Some n) (number text)
-
--- a foreground and a background
-unfoldable pub two_colours : List ℕ → Option (Option ℕ × Option ℕ)
-two_colours text =
-    option_and_then (λ rest. option_and_then (λ first. option_map (λ second. (first, second)) (colour rest)) (colour (cut text).0)) (cut text).1
 
 -- two hexadecimal digits, of either case
 unfoldable pub hexadecimal_byte : List ℕ → Option ℕ

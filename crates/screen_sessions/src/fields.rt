@@ -1,167 +1,204 @@
-//! Parsing the fields of a line.
-ghost use Rattle.std.specs.Prelude.{◌≡◌, ◌^◌, Some, None, [], ◌∷◌, ◌++◌, IfSome, IfOk, OnOk, IsErrOf, List, ℕ, min, true, option_and_then};
+//! The fields of a line, and what they spell.
+ghost use Rattle.std.specs.Prelude.{◌≡◌, ◌^◌, ◌++◌, ◌∷◌, [], IfOk, OnOk, min, map, true, Option, Some, None, option_map};
 ghost use Rattle.std.specs.Char.{is_ascii_digit};
 ghost use Rattle.std.specs.List.{list_all};
-ghost use Rattle.std.specs.Option.{option_copied, option_map};
+ghost use Rattle.std.specs.Option.{option_copied};
 ghost use Rattle.std.specs.Str.Parse.{digits_value};
-ghost use Rattle.screen_scripts.specs.Fields.{cut, each, fields_of, number as number_of, numbers as numbers_of, number_and_text as number_and_text_of, integer as integer_of, setting as setting_of, background as background_of, colour as colour_of, two_colours as two_colours_of, hexadecimal_byte as hexadecimal_byte_of, hexadecimal_bytes as hexadecimal_bytes_of};
-ghost use Rattle.screen_scripts.specs.Commands.{numbered};
+ghost use Rattle.screen_sessions.specs.Fields.{cut, field_and_text as field_and_text_of, fields_behind, number as number_of, up_to as up_to_of, integer as integer_of, setting as setting_of, graphic as graphic_of, colour as colour_of, hexadecimal_byte as hexadecimal_byte_of, hexadecimal_bytes as hexadecimal_bytes_of};
+ghost use Rattle.scr_cells.specs.Characters.{IsAscii};
+ghost use Rattle.screen_sessions.specs.Reading.{IsRefused, read};
 
-use crate::LineFault;
+use crate::call_faults::CallFault;
 use crate::cuts::cut_at;
+use crate::reasons::Reason;
 use arrayvec::ArrayVec;
-use scr_cells::{Attrs, Cell, NoMemory};
+use scr_cells::NoMemory;
 use std::alloc::Global;
 use ti_caps::Bytes;
 
-/// The most numbers that follow a word.
-const MOST: usize = 8;
+/// More fields than any call takes.
+const MOST: usize = 10;
 
-/// The numbers that follow a word.
-pub(crate) type Numbers = ArrayVec<u32, MOST>;
+/// The fields behind a word.
+pub(crate) type Fields<'a> = ArrayVec<&'a [u8], MOST>;
 
 /// The first field of a text, and the text after the blank that follows it, if one does.
 #[tactic(auto, unfolding(crate::specs::Fields::cut))]
-pub(crate) fn cut_field(text: &[u8]) -> (&[u8], Option<&[u8]>)
+pub fn cut_field(text: &[u8]) -> (&[u8], Option<&[u8]>)
     ensures { cut text.now ≡ (result.0.now, option_copied result.1) }
 {
     cut_at(b' ', text)
 }
 
-/// A number in decimal digits, if it is below 2^32.
-#[tactic(auto, unfolding(crate::specs::Fields::number))]
-pub(crate) fn number(digits: &[u8]) -> Option<u32>
-    ensures { result ≡ number_of digits.now }
-{
-    if digits.is_empty() || !are_digits(digits) {
-        return None;
-    }
-    u32::try_from(value_up_to_limit(digits)).ok()
-}
-
-/// The numbers of a text, one in each field; an empty list if there is no text. `None` if a field
-/// is not a number, or if there are more numbers than any word takes.
-#[tactic(auto, unfolding(crate::specs::Fields::numbers))]
-pub(crate) fn numbers(text: Option<&[u8]>) -> Option<Numbers>
-    ensures some { IfSome result (λ list. numbers_of (option_copied text.entry) ≡ Some list.items) }
-    ensures none { result ≡ None → (word : List ℕ) → option_and_then (numbered word) (numbers_of (option_copied text.entry)) ≡ None }
+/// The fields of the text behind a word; the first ten, if there are more.
+#[tactic(auto, unfolding(crate::specs::Fields::fields_behind))]
+pub(crate) fn fields_after<'a>(text: Option<&'a [u8]>) -> Fields<'a>
+    ensures { map (λ field. field.now) result.items ≡ fields_behind (option_copied text.entry) }
 {
     match text {
-        Some(text) => each_number(text),
-        None => Some(ArrayVec::new()),
+        Some(text) => first_fields(text),
+        None => ArrayVec::new(),
     }
 }
 
-/// The number at the beginning of a text, and the text after the blank that follows it.
-#[tactic(auto, unfolding(crate::specs::Fields::number_and_text))]
-pub(crate) fn number_and_text(text: Option<&[u8]>) -> Option<(u32, &[u8])>
-    ensures { option_map (λ parts. (parts.0, parts.1.now)) result ≡ number_and_text_of (option_copied text.entry) }
+// The first ten fields of a text.
+#[tactic(auto, unfolding(crate::specs::Fields::fields_behind))]
+fn first_fields<'a>(text: &'a [u8]) -> Fields<'a>
+    ensures { map (λ field. field.now) result.items ≡ fields_behind (Some text.now) }
 {
-    let (field, rest) = cut_field(text?);
-    Some((number(field)?, rest?))
+    let mut list = ArrayVec::new();
+    for field in text.split(|byte| *byte == b' ') {
+        if list.is_full() {
+            return list;
+        }
+        list.push(field);
+    }
+    list
+}
+
+/// The first field of a text, and the text after the blank that follows it. Refused if there is no text, or no blank.
+#[tactic(auto, unfolding(crate::specs::Fields::field_and_text))]
+pub fn field_and_text<'a>(text: Option<&'a [u8]>) -> Result<(&'a [u8], &'a [u8]), Reason<'a>>
+    ensures { option_map (λ parts. (parts.0.now, parts.1.now)) (read result) ≡ field_and_text_of (option_copied text.entry) }
+{
+    let Some(text) = text else {
+        return Err(Reason::WrongCount);
+    };
+    match cut_field(text) {
+        (field, Some(rest)) => Ok((field, rest)),
+        ([], None) => Err(Reason::EmptyWord),
+        (_, None) => Err(Reason::WrongCount),
+    }
+}
+
+/// A number in decimal digits, if it is below 2^32.
+#[tactic(auto, unfolding(crate::specs::Fields::number))]
+pub fn number<'a>(field: &'a [u8]) -> Result<u32, Reason<'a>>
+    ensures { read result ≡ number_of field.now }
+{
+    if field.is_empty() {
+        return Err(Reason::EmptyWord);
+    }
+    if !are_digits(field) {
+        return Err(Reason::NotNumber(field));
+    }
+    match u32::try_from(value_up_to_limit(field)) {
+        Ok(number) => Ok(number),
+        Err(_) => Err(Reason::OutOfRange),
+    }
+}
+
+/// A number up to this one.
+pub(crate) fn up_to<'a>(most: u32, field: &'a [u8]) -> Result<u32, Reason<'a>>
+    ensures { read result ≡ up_to_of most field.now }
+{
+    let number = number(field)?;
+    if number > most {
+        return Err(Reason::OutOfRange);
+    }
+    Ok(number)
 }
 
 /// A 32-bit number, with `-` before it if it is negative.
 #[tactic(auto, unfolding(crate::specs::Fields::integer))]
-pub(crate) fn integer(text: &[u8]) -> Option<i32>
-    ensures { result ≡ integer_of text.now }
+pub(crate) fn integer<'a>(field: &'a [u8]) -> Result<i32, Reason<'a>>
+    ensures { read result ≡ integer_of field.now }
 {
-    match text {
-        [] => None,
-        [b'-', digits @ ..] => i32::try_from(-i64::from(number(digits)?)).ok(),
-        _ => i32::try_from(number(text)?).ok(),
+    let in_range = match field {
+        [] => return Err(Reason::EmptyWord),
+        [b'-', digits @ ..] => match number(digits) {
+            Ok(number) => i32::try_from(-i64::from(number)),
+            Err(Reason::OutOfRange) => return Err(Reason::OutOfRange),
+            Err(_) => return Err(Reason::NotNumber(field)),
+        },
+        _ => i32::try_from(number(field)?),
+    };
+    match in_range {
+        Ok(number) => Ok(number),
+        Err(_) => Err(Reason::OutOfRange),
     }
 }
 
 /// A setting: `1` for on, `0` for off.
 #[tactic(auto, unfolding(crate::specs::Fields::setting))]
-pub(crate) fn setting(text: &[u8]) -> Option<bool>
-    ensures { result ≡ setting_of text.now }
+pub(crate) fn setting<'a>(field: &'a [u8]) -> Result<bool, Reason<'a>>
+    ensures { read result ≡ setting_of field.now }
 {
-    if text == b"0".as_slice() {
-        Some(false)
-    } else if text == b"1".as_slice() {
-        Some(true)
+    if field == b"0".as_slice() {
+        Ok(false)
+    } else if field == b"1".as_slice() {
+        Ok(true)
+    } else if field.is_empty() {
+        Err(Reason::EmptyWord)
     } else {
-        None
+        Err(Reason::NotSetting(field))
     }
 }
 
-/// A background: a character with a code from 33 to 126, and the number of an attribute set.
-#[tactic(auto, unfolding(crate::specs::Fields::background))]
-pub(crate) fn background(text: &[u8]) -> Option<Cell>
-    ensures { result ≡ background_of text.now }
+/// A character with a code from 33 to 126.
+#[tactic(auto, unfolding(crate::specs::Fields::graphic))]
+pub(crate) fn graphic<'a>(field: &'a [u8]) -> Result<u8, Reason<'a>>
+    ensures value { read result ≡ graphic_of field.now }
+    ensures prints { IfOk result IsAscii }
 {
-    let (field, digits) = cut_field(text);
-    let [byte] = *field else {
-        return None;
-    };
-    let number = number(digits?)?;
-    if !byte.is_ascii_graphic() || number > 127 {
-        return None;
+    match field {
+        [byte] if byte.is_ascii_graphic() => Ok(*byte),
+        [] => Err(Reason::EmptyWord),
+        _ => Err(Reason::NotCharacter(field)),
     }
-    Cell::new(byte, Attrs(number as u8))
 }
 
-/// A foreground and a background, each by its number, or `-` for the terminal's default.
-#[tactic(auto, unfolding(crate::specs::Fields::two_colours))]
-pub(crate) fn two_colours(text: &[u8]) -> Option<(Option<u32>, Option<u32>)>
-    ensures { result ≡ two_colours_of text.now }
-{
-    let (field, rest) = cut_field(text);
-    let rest = rest?;
-    Some((colour(field)?, colour(rest)?))
-}
-
+/// A colour by its number, or `-` for the terminal's default.
 #[tactic(auto, unfolding(crate::specs::Fields::colour))]
-fn colour(text: &[u8]) -> Option<Option<u32>>
-    ensures { result ≡ colour_of text.now }
+pub(crate) fn colour<'a>(field: &'a [u8]) -> Result<Option<u32>, Reason<'a>>
+    ensures { read result ≡ colour_of field.now }
 {
-    if text == b"-".as_slice() {
-        Some(None)
+    if field == b"-".as_slice() {
+        Ok(None)
     } else {
-        Some(Some(number(text)?))
+        Ok(Some(number(field)?))
     }
 }
 
-/// The bytes of a text that has a field of two hexadecimal digits for each. Refused if a field is
-/// anything else, or if memory runs out.
+/// The bytes of a text that has a field of two hexadecimal digits for each.
 #[tactic(auto, unfolding(crate::specs::Fields::hexadecimal_bytes))]
-pub(crate) fn hexadecimal_bytes(alloc: Global, text: &[u8]) -> Result<Bytes, LineFault>
+pub fn hexadecimal_bytes<'a>(alloc: Global, text: &'a [u8]) -> Result<Bytes, CallFault<'a>>
     ensures ok { IfOk result (λ bytes. hexadecimal_bytes_of text.now ≡ Some bytes) }
-    ensures bad { IsErrOf result LineFault.Bad → hexadecimal_bytes_of text.now ≡ None }
+    ensures bad { IsRefused result → hexadecimal_bytes_of text.now ≡ None }
 {
     let mut bytes = Vec::new(alloc);
     for field in text.split(|byte| *byte == b' ') {
-        let Some(byte) = hexadecimal_byte(field) else {
-            return Err(LineFault::Bad);
-        };
+        let byte = hexadecimal_byte(field)?;
         push(&mut bytes, byte)?;
     }
     Ok(Bytes(bytes))
 }
 
 /// A copy of a text. Fails only when memory runs out.
-pub(crate) fn copied(alloc: Global, text: &[u8]) -> Result<Bytes, NoMemory>
+pub fn copied(alloc: Global, text: &[u8]) -> Result<Bytes, NoMemory>
     ensures { IfOk result (λ bytes. bytes ≡ text.now) }
 {
     Ok(Bytes(Vec::from_slice(alloc, text)?))
 }
 
-// The numbers of a text, one in each field.
-fn each_number(text: &[u8]) -> Option<Numbers>
-    ensures some { IfSome result (λ list. each number_of (fields_of text.now) ≡ Some list.items) }
-    ensures none { result ≡ None → (word : List ℕ) → option_and_then (numbered word) (each number_of (fields_of text.now)) ≡ None }
-{
-    let mut list = ArrayVec::new();
-    for field in text.split(|byte| *byte == b' ') {
-        let number = number(field)?;
-        if list.is_full() {
-            return None;
+/// Why there are too many fields or too few: one is empty, if any is.
+pub(crate) fn count_fault<'a>(fields: &[&'a [u8]]) -> Reason<'a> {
+    for field in fields {
+        if field.is_empty() {
+            return Reason::EmptyWord;
         }
-        list.push(number);
     }
-    Some(list)
+    Reason::WrongCount
+}
+
+/// The same of all fields of a text.
+pub fn count_fault_of<'a>(text: Option<&'a [u8]>) -> Reason<'a> {
+    for field in text.unwrap_or(&[b'-']).split(|byte| *byte == b' ') {
+        if field.is_empty() {
+            return Reason::EmptyWord;
+        }
+    }
+    Reason::WrongCount
 }
 
 fn push(bytes: &mut Vec<u8>, byte: u8) -> Result<(), NoMemory>
@@ -173,15 +210,19 @@ fn push(bytes: &mut Vec<u8>, byte: u8) -> Result<(), NoMemory>
 
 // The byte spelled by two hexadecimal digits.
 #[tactic(auto, unfolding(crate::specs::Fields::hexadecimal_byte))]
-fn hexadecimal_byte(field: &[u8]) -> Option<u8>
-    ensures { result ≡ hexadecimal_byte_of field.now }
+fn hexadecimal_byte<'a>(field: &'a [u8]) -> Result<u8, Reason<'a>>
+    ensures { read result ≡ hexadecimal_byte_of field.now }
 {
     let [high, low] = *field else {
-        return None;
+        return Err(match field {
+            [] => Reason::EmptyWord,
+            _ => Reason::NotHexadecimal(field),
+        });
     };
-    let high = char::from(high).to_digit(16)?;
-    let low = char::from(low).to_digit(16)?;
-    Some((high * 16 + low) as u8)
+    match (char::from(high).to_digit(16), char::from(low).to_digit(16)) {
+        (Some(high), Some(low)) => Ok((high * 16 + low) as u8),
+        _ => Err(Reason::NotHexadecimal(field)),
+    }
 }
 
 fn are_digits(text: &[u8]) -> bool

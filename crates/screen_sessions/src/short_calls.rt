@@ -1,208 +1,307 @@
-//! Commands that are a word and numbers.
-ghost use Rattle.std.specs.Prelude.{◌≡◌, option_and_then};
-ghost use Rattle.std.specs.Option.{option_copied, option_map};
-ghost use Rattle.screen_scripts.specs.Fields.{numbers as numbers_of};
-ghost use Rattle.screen_scripts.specs.Commands.{attributes, meaning, numbered as numbered_of, words_alone, with_one as one_of, with_two as two_of, with_three as three_of, with_four as four_of, with_five as five_of, with_seven as seven_of, with_eight as eight_of};
+//! Calls by the short names that scripts have for them. The definitions are in `specs/ShortCalls.antt`.
+ghost use Rattle.std.specs.Prelude.{◌≡◌, false, map};
+ghost use Rattle.screen_sessions.specs.Fields.{colour as colour_of, graphic as graphic_of, integer as integer_of, number as number_of, setting as setting_of, up_to as up_to_of};
+ghost use Rattle.screen_sessions.specs.Reading.{read};
+ghost use Rattle.screen_sessions.specs.ShortCalls.{attributes, change_call, eight_numbers, five_numbers, four_numbers, one_read, plain_cell, setting_call, seven_numbers, short_call, three_read, two_read, window};
+ghost use Rattle.screen_sessions.specs.declared.calls.Call.TheVariants.{AddByte, AttrSet, ChangeBackground, Copy, Derive, PadNoutrefresh, ResizeWindow, Scroll, ScrollOk, SetPairOf, Sub, SubPad};
 
-use crate::Command;
-use crate::fields::numbers;
-use scr_cells::Attrs;
+use crate::calls::Call;
+use crate::fields::{colour, count_fault, graphic, integer, number, setting, up_to};
+use crate::reasons::Reason;
+use scr_cells::{Attrs, Cell};
 use scr_windows::{BOX, Win};
-use screen_sessions::Call;
 
-/// The command of a word with the numbers of the text that follows it, if any.
-pub(crate) fn numbered_command(word: &[u8], text: Option<&[u8]>) -> Option<Command>
-    ensures { result ≡ option_and_then (numbered_of word.now) (numbers_of (option_copied text.entry)) }
+/// The call by this name with these fields.
+#[tactic(auto, unfolding(crate::specs::ShortCalls::short_call))]
+pub(crate) fn short_call<'a>(name: &'a [u8], fields: &[&'a [u8]]) -> Result<Call, Reason<'a>>
+    ensures { read result ≡ short_call name.now (map (λ field. field.now) fields.now) }
 {
-    let list = numbers(text)?;
-    numbered(word, list.as_slice())
-}
-
-// The command of a word with these numbers.
-#[tactic(auto, unfolding(crate::specs::Commands::numbered))]
-fn numbered(word: &[u8], list: &[u32]) -> Option<Command>
-    ensures { result ≡ numbered_of word.now list.now }
-{
-    match list {
-        [] => alone(word),
-        &[a] => with_one(word, a).map(Command::Make),
-        &[a, b] => with_two(word, a, b),
-        &[a, b, c] => with_three(word, a, b, c).map(Command::Make),
-        &[a, b, c, d] => with_four(word, a, b, c, d).map(Command::Make),
-        &[a, b, c, d, e] => with_five(word, a, b, c, d, e).map(Command::Make),
-        &[a, b, c, d, e, f, g] => with_seven(word, a, b, c, d, e, f, g).map(Command::Make),
-        &[a, b, c, d, e, f, g, h] => with_eight(word, a, b, c, d, e, f, g, h).map(Command::Make),
-        _ => None,
-    }
-}
-
-#[tactic(auto, unfolding(crate::specs::Commands::words_alone))]
-fn alone(word: &[u8]) -> Option<Command>
-    ensures { result ≡ meaning words_alone word.now }
-{
-    if word == b"show".as_slice() {
-        Some(Command::Show)
-    } else if word == b"update".as_slice() {
-        Some(Command::Make(Call::Doupdate))
-    } else if word == b"idle".as_slice() {
-        Some(Command::Idle)
+    if name == b"win".as_slice() {
+        let (rows, columns, row, column) = four(fields)?;
+        Ok(Call::NewWindow(rows, columns, row, column))
+    } else if name == b"pad".as_slice() {
+        let (rows, columns) = two(fields)?;
+        Ok(Call::NewPad(rows, columns))
+    } else if name == b"sub".as_slice() {
+        sub(fields)
+    } else if name == b"derive".as_slice() {
+        derived(fields)
+    } else if name == b"subpad".as_slice() {
+        sub_pad(fields)
+    } else if name == b"resize".as_slice() {
+        resized(fields)
+    } else if name == b"del".as_slice() {
+        Ok(Call::Delete(Win(one(fields)?)))
+    } else if name == b"touch".as_slice() {
+        Ok(Call::TouchWindow(Win(one(fields)?)))
+    } else if name == b"untouch".as_slice() {
+        Ok(Call::Untouch(Win(one(fields)?)))
     } else {
-        None
+        change_call(name, fields)
     }
 }
 
-#[tactic(auto, unfolding(crate::specs::Commands::with_one))]
-fn with_one(word: &[u8], window: u32) -> Option<Call>
-    ensures { result ≡ option_map (λ make. make window) (meaning one_of word.now) }
+// Calls that change cells, and those after them.
+#[tactic(auto, unfolding(crate::specs::ShortCalls::change_call))]
+fn change_call<'a>(name: &'a [u8], fields: &[&'a [u8]]) -> Result<Call, Reason<'a>>
+    ensures { read result ≡ change_call name.now (map (λ field. field.now) fields.now) }
 {
-    let window = Win(window);
-    if word == b"del".as_slice() {
-        Some(Call::Delete(window))
-    } else if word == b"erase".as_slice() {
-        Some(Call::Erase(window))
-    } else if word == b"clear".as_slice() {
-        Some(Call::Clear(window))
-    } else if word == b"touch".as_slice() {
-        Some(Call::TouchWindow(window))
-    } else if word == b"untouch".as_slice() {
-        Some(Call::Untouch(window))
-    } else if word == b"refresh".as_slice() {
-        Some(Call::Noutrefresh(window))
-    } else if word == b"lines".as_slice() {
-        Some(Call::BorderOf(window, BOX))
+    if name == b"byte".as_slice() {
+        byte(fields)
+    } else if name == b"bkgd".as_slice() {
+        background(fields)
+    } else if name == b"erase".as_slice() {
+        Ok(Call::Erase(Win(one(fields)?)))
+    } else if name == b"clear".as_slice() {
+        Ok(Call::Clear(Win(one(fields)?)))
+    } else if name == b"lines".as_slice() {
+        Ok(Call::BorderOf(Win(one(fields)?), BOX))
+    } else if name == b"scroll".as_slice() {
+        moving(fields)
+    } else if name == b"copy".as_slice() {
+        copying(fields)
+    } else if name == b"overlay".as_slice() {
+        let (source, target) = two(fields)?;
+        Ok(Call::Overlay(Win(source), Win(target)))
+    } else if name == b"overwrite".as_slice() {
+        let (source, target) = two(fields)?;
+        Ok(Call::Overwrite(Win(source), Win(target)))
     } else {
-        None
+        setting_call(name, fields)
     }
 }
 
-#[tactic(auto, unfolding(crate::specs::Commands::with_two))]
-fn with_two(word: &[u8], first: u32, second: u32) -> Option<Command>
-    ensures { result ≡ option_and_then (λ make. make first second) (meaning two_of word.now) }
+// Calls that set something or copy to the virtual screen, and the update.
+#[tactic(auto, unfolding(crate::specs::ShortCalls::setting_call))]
+fn setting_call<'a>(name: &'a [u8], fields: &[&'a [u8]]) -> Result<Call, Reason<'a>>
+    ensures { read result ≡ setting_call name.now (map (λ field. field.now) fields.now) }
 {
-    if word == b"size".as_slice() {
-        Some(Command::Size(first, second))
-    } else if word == b"pad".as_slice() {
-        Some(Command::Make(Call::NewPad(first, second)))
-    } else if word == b"byte".as_slice() {
-        Some(Command::Make(Call::AddByte(Win(first), u8::try_from(second).ok()?, Attrs(0))))
-    } else if word == b"attr".as_slice() {
-        Some(Command::Make(Call::AttrSet(Win(first), attributes(second)?)))
-    } else if word == b"color".as_slice() {
-        Some(Command::Make(Call::ColorSet(Win(first), second)))
-    } else if word == b"overlay".as_slice() {
-        Some(Command::Make(Call::Overlay(Win(first), Win(second))))
-    } else if word == b"overwrite".as_slice() {
-        Some(Command::Make(Call::Overwrite(Win(first), Win(second))))
+    if name == b"at".as_slice() {
+        let (window, row, column) = three(fields)?;
+        Ok(Call::MoveCursor(Win(window), row, column))
+    } else if name == b"attr".as_slice() {
+        attributes(fields)
+    } else if name == b"color".as_slice() {
+        let (window, pair) = two(fields)?;
+        Ok(Call::ColorSet(Win(window), pair))
+    } else if name == b"pair".as_slice() {
+        colours(fields)
+    } else if name == b"scrollok".as_slice() {
+        scrolling(fields)
+    } else if name == b"refresh".as_slice() {
+        Ok(Call::Noutrefresh(Win(one(fields)?)))
+    } else if name == b"padrefresh".as_slice() {
+        taking(fields)
+    } else if name == b"update".as_slice() {
+        match fields {
+            [] => Ok(Call::Doupdate),
+            _ => Err(count_fault(fields)),
+        }
     } else {
-        None
+        Err(Reason::Unknown(name))
     }
 }
 
-#[tactic(auto, unfolding(crate::specs::Commands::with_three))]
-fn with_three(word: &[u8], first: u32, second: u32, third: u32) -> Option<Call>
-    ensures { result ≡ option_map (λ make. make first second third) (meaning three_of word.now) }
+// `sub W R C Y X`.
+fn sub<'a>(fields: &[&'a [u8]]) -> Result<Call, Reason<'a>>
+    ensures { read result ≡ five_numbers (λ w rows columns row column. Sub (window w) rows columns row column) (map (λ field. field.now) fields.now) }
 {
-    if word == b"at".as_slice() {
-        Some(Call::MoveCursor(Win(first), second, third))
-    } else if word == b"resize".as_slice() {
-        Some(Call::ResizeWindow(Win(first), second, third))
-    } else {
-        None
+    let (parent, rows, columns, row, column) = five(fields)?;
+    Ok(Call::Sub(Win(parent), rows, columns, row, column))
+}
+
+// `derive W R C Y X`.
+fn derived<'a>(fields: &[&'a [u8]]) -> Result<Call, Reason<'a>>
+    ensures { read result ≡ five_numbers (λ w rows columns row column. Derive (window w) rows columns row column) (map (λ field. field.now) fields.now) }
+{
+    let (parent, rows, columns, row, column) = five(fields)?;
+    Ok(Call::Derive(Win(parent), rows, columns, row, column))
+}
+
+// `subpad W R C Y X`.
+fn sub_pad<'a>(fields: &[&'a [u8]]) -> Result<Call, Reason<'a>>
+    ensures { read result ≡ five_numbers (λ w rows columns row column. SubPad (window w) rows columns row column) (map (λ field. field.now) fields.now) }
+{
+    let (parent, rows, columns, row, column) = five(fields)?;
+    Ok(Call::SubPad(Win(parent), rows, columns, row, column))
+}
+
+// `resize W R C`.
+fn resized<'a>(fields: &[&'a [u8]]) -> Result<Call, Reason<'a>>
+    ensures { read result ≡ three_read number_of number_of number_of (λ w rows columns. ResizeWindow (window w) rows columns) (map (λ field. field.now) fields.now) }
+{
+    let (window, rows, columns) = three(fields)?;
+    Ok(Call::ResizeWindow(Win(window), rows, columns))
+}
+
+// `byte W N`.
+fn byte<'a>(fields: &[&'a [u8]]) -> Result<Call, Reason<'a>>
+    ensures { read result ≡ two_read number_of (up_to_of 255) (λ w byte. AddByte (window w) byte (attributes 0)) (map (λ field. field.now) fields.now) }
+{
+    let &[window, byte] = fields else {
+        return Err(count_fault(fields));
+    };
+    let (window, byte) = (number(window)?, up_to(255, byte)?);
+    Ok(Call::AddByte(Win(window), byte as u8, Attrs(0)))
+}
+
+// `attr W N`.
+fn attributes<'a>(fields: &[&'a [u8]]) -> Result<Call, Reason<'a>>
+    ensures { read result ≡ two_read number_of (up_to_of 127) (λ w attrs. AttrSet (window w) (attributes attrs)) (map (λ field. field.now) fields.now) }
+{
+    let &[window, attrs] = fields else {
+        return Err(count_fault(fields));
+    };
+    let (window, attrs) = (number(window)?, up_to(127, attrs)?);
+    Ok(Call::AttrSet(Win(window), Attrs(attrs as u8)))
+}
+
+// `scroll W N`.
+fn moving<'a>(fields: &[&'a [u8]]) -> Result<Call, Reason<'a>>
+    ensures { read result ≡ two_read number_of integer_of (λ w n. Scroll (window w) n) (map (λ field. field.now) fields.now) }
+{
+    let &[window, lines] = fields else {
+        return Err(count_fault(fields));
+    };
+    Ok(Call::Scroll(Win(number(window)?), integer(lines)?))
+}
+
+// `scrollok W 0|1`.
+fn scrolling<'a>(fields: &[&'a [u8]]) -> Result<Call, Reason<'a>>
+    ensures { read result ≡ two_read number_of setting_of (λ w is_on. ScrollOk (window w) is_on) (map (λ field. field.now) fields.now) }
+{
+    let &[window, is_on] = fields else {
+        return Err(count_fault(fields));
+    };
+    Ok(Call::ScrollOk(Win(number(window)?), setting(is_on)?))
+}
+
+// `padrefresh W` and six numbers.
+fn taking<'a>(fields: &[&'a [u8]]) -> Result<Call, Reason<'a>>
+    ensures { read result ≡ seven_numbers (λ w row column top left bottom right. PadNoutrefresh (window w) row column top left bottom right) (map (λ field. field.now) fields.now) }
+{
+    let (pad, row, column, corners) = seven(fields)?;
+    let (top, left, bottom, right) = corners;
+    Ok(Call::PadNoutrefresh(
+        Win(pad),
+        row,
+        column,
+        top,
+        left,
+        bottom,
+        right,
+    ))
+}
+
+// `pair N F B`.
+fn colours<'a>(fields: &[&'a [u8]]) -> Result<Call, Reason<'a>>
+    ensures { read result ≡ three_read number_of colour_of colour_of (λ pair foreground background. SetPairOf pair foreground background) (map (λ field. field.now) fields.now) }
+{
+    let &[pair, foreground, background] = fields else {
+        return Err(count_fault(fields));
+    };
+    Ok(Call::SetPairOf(number(pair)?, colour(foreground)?, colour(background)?))
+}
+
+// `bkgd W BYTE N`.
+fn background<'a>(fields: &[&'a [u8]]) -> Result<Call, Reason<'a>>
+    ensures { read result ≡ three_read number_of graphic_of (up_to_of 127) (λ w byte attrs. ChangeBackground (window w) (plain_cell byte attrs)) (map (λ field. field.now) fields.now) }
+{
+    let &[window, character, attrs] = fields else {
+        return Err(count_fault(fields));
+    };
+    let (window, byte, attrs) = (number(window)?, graphic(character)?, up_to(127, attrs)?);
+    match Cell::new(byte, Attrs(attrs as u8)) {
+        Some(cell) => Ok(Call::ChangeBackground(Win(window), cell)),
+        None => Err(Reason::NotCharacter(character)),
     }
 }
 
-#[tactic(auto, unfolding(crate::specs::Commands::with_four))]
-fn with_four(word: &[u8], rows: u32, columns: u32, row: u32, column: u32) -> Option<Call>
-    ensures { result ≡ option_map (λ make. make rows columns row column) (meaning four_of word.now) }
+// `copy S D` and six numbers.
+fn copying<'a>(fields: &[&'a [u8]]) -> Result<Call, Reason<'a>>
+    ensures { read result ≡ eight_numbers (λ source target row column top left bottom right. Copy (window source) (window target) row column top left bottom right false) (map (λ field. field.now) fields.now) }
 {
-    if word == b"win".as_slice() {
-        Some(Call::NewWindow(rows, columns, row, column))
-    } else {
-        None
+    let [source, rest @ ..] = fields else {
+        return Err(count_fault(fields));
+    };
+    if rest.len() != 7 {
+        return Err(count_fault(fields));
     }
+    let source = Win(number(source)?);
+    let (target, row, column, corners) = seven(rest)?;
+    let (top, left, bottom, right) = corners;
+    Ok(Call::Copy(
+        source,
+        Win(target),
+        row,
+        column,
+        top,
+        left,
+        bottom,
+        right,
+        false,
+    ))
 }
 
-#[tactic(auto, unfolding(crate::specs::Commands::with_five))]
-fn with_five(
-    word: &[u8],
-    parent: u32,
-    rows: u32,
-    columns: u32,
-    row: u32,
-    column: u32,
-) -> Option<Call>
-    ensures { result ≡ option_map (λ make. make parent rows columns row column) (meaning five_of word.now) }
+// One number.
+pub(crate) fn one<'a>(fields: &[&'a [u8]]) -> Result<u32, Reason<'a>>
+    ensures { read result ≡ one_read number_of (λ n. n) (map (λ field. field.now) fields.now) }
 {
-    let parent = Win(parent);
-    if word == b"sub".as_slice() {
-        Some(Call::Sub(parent, rows, columns, row, column))
-    } else if word == b"derive".as_slice() {
-        Some(Call::Derive(parent, rows, columns, row, column))
-    } else if word == b"subpad".as_slice() {
-        Some(Call::SubPad(parent, rows, columns, row, column))
-    } else {
-        None
-    }
+    let &[a] = fields else {
+        return Err(count_fault(fields));
+    };
+    number(a)
 }
 
-#[tactic(auto, unfolding(crate::specs::Commands::with_seven))]
-fn with_seven(
-    word: &[u8],
-    pad: u32,
-    row: u32,
-    column: u32,
-    top: u32,
-    left: u32,
-    bottom: u32,
-    right: u32,
-) -> Option<Call>
-    ensures { result ≡ option_map (λ make. make pad row column top left bottom right) (meaning seven_of word.now) }
+// Two numbers.
+pub(crate) fn two<'a>(fields: &[&'a [u8]]) -> Result<(u32, u32), Reason<'a>>
+    ensures { read result ≡ two_read number_of number_of (λ a b. (a, b)) (map (λ field. field.now) fields.now) }
 {
-    if word == b"padrefresh".as_slice() {
-        Some(Call::PadNoutrefresh(Win(pad), row, column, top, left, bottom, right))
-    } else {
-        None
-    }
+    let &[a, b] = fields else {
+        return Err(count_fault(fields));
+    };
+    Ok((number(a)?, number(b)?))
 }
 
-#[tactic(auto, unfolding(crate::specs::Commands::with_eight))]
-fn with_eight(
-    word: &[u8],
-    source: u32,
-    target: u32,
-    row: u32,
-    column: u32,
-    top: u32,
-    left: u32,
-    bottom: u32,
-    right: u32,
-) -> Option<Call>
-    ensures { result ≡ option_map (λ make. make source target row column top left bottom right) (meaning eight_of word.now) }
+// Three numbers.
+pub(crate) fn three<'a>(fields: &[&'a [u8]]) -> Result<(u32, u32, u32), Reason<'a>>
+    ensures { read result ≡ three_read number_of number_of number_of (λ a b c. (a, b, c)) (map (λ field. field.now) fields.now) }
 {
-    if word == b"copy".as_slice() {
-        Some(Call::Copy(
-            Win(source),
-            Win(target),
-            row,
-            column,
-            top,
-            left,
-            bottom,
-            right,
-            false,
-        ))
-    } else {
-        None
-    }
+    let &[a, b, c] = fields else {
+        return Err(count_fault(fields));
+    };
+    Ok((number(a)?, number(b)?, number(c)?))
 }
 
-// The attribute set with a number.
-#[tactic(auto, unfolding(crate::specs::Commands::attributes))]
-fn attributes(number: u32) -> Option<Attrs>
-    ensures { result ≡ attributes number }
+// Four numbers.
+pub(crate) fn four<'a>(fields: &[&'a [u8]]) -> Result<(u32, u32, u32, u32), Reason<'a>>
+    ensures { read result ≡ four_numbers (λ a b c d. (a, b, c, d)) (map (λ field. field.now) fields.now) }
 {
-    if number > 127 {
-        return None;
-    }
-    Some(Attrs(number as u8))
+    let &[a, b, c, d] = fields else {
+        return Err(count_fault(fields));
+    };
+    Ok((number(a)?, number(b)?, number(c)?, number(d)?))
+}
+
+// Five numbers.
+pub(crate) fn five<'a>(fields: &[&'a [u8]]) -> Result<(u32, u32, u32, u32, u32), Reason<'a>>
+    ensures { read result ≡ five_numbers (λ a b c d e. (a, b, c, d, e)) (map (λ field. field.now) fields.now) }
+{
+    let &[a, b, c, d, e] = fields else {
+        return Err(count_fault(fields));
+    };
+    Ok((number(a)?, number(b)?, number(c)?, number(d)?, number(e)?))
+}
+
+// Seven numbers, of which the last four are corners.
+pub(crate) fn seven<'a>(
+    fields: &[&'a [u8]],
+) -> Result<(u32, u32, u32, (u32, u32, u32, u32)), Reason<'a>>
+    ensures { read result ≡ seven_numbers (λ a b c d e f g. (a, b, c, (d, e, f, g))) (map (λ field. field.now) fields.now) }
+{
+    let &[a, b, c, d, e, f, g] = fields else {
+        return Err(count_fault(fields));
+    };
+    let (a, b, c) = (number(a)?, number(b)?, number(c)?);
+    Ok((a, b, c, (number(d)?, number(e)?, number(f)?, number(g)?)))
 }
