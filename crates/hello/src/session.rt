@@ -1,7 +1,6 @@
 //! A test of a full-screen program without a terminal: a dialog is drawn, its bytes are fed to an emulated terminal,
 //! and the rows that this shows are compared with text. Then a program from its start to its close, which has to leave
 //! the terminal without attributes and on its last line.
-#![tactic(auto)]
 
 use anyhow::{Context, Result, bail};
 use curses::{Attrs, Bytes, Device, EcmaScreen, Entry, Look, Screen, Size, Spot, Win, bundled};
@@ -128,10 +127,11 @@ fn compare(rt: &HostRuntime, terminal: &EcmaScreen) -> Result<()> {
     Ok(())
 }
 
-fn main(rt: HostRuntime) -> Result<()> {
+/// Compares what the dialog shows with what is wanted, and prints whether the program leaves the terminal plain.
+pub(crate) fn check(rt: &HostRuntime) -> Result<()> {
     let size = Size::new(5, 24).context("no size")?;
     let terminal = shown(rt.alloc(), size)?;
-    compare(&rt, &terminal)?;
+    compare(rt, &terminal)?;
     if is_left_plain(rt.alloc(), size)? {
         println!(rt; "left plain")?;
     }

@@ -1,22 +1,31 @@
 //! A clock in a window of its own, in the middle of the screen: it counts the seconds since it was started, until a key is
-//! pressed. Any argument selects the bundled entry.
-#![tactic(auto)]
+//! pressed.
 
-use anyhow::Result;
-use curses::{Screen, Win, WinFault, bundled};
+use curses::{Screen, Win, WinFault};
+use std::io;
 use std::time::Instant;
-use terminal::{Event, Program, TerminalScreen};
+use terminal::{Event, Program};
 
 const WIDTH: u32 = 20;
 
 #[derive(Drop)]
-struct Clock<'a> {
+pub(crate) struct Clock<'a> {
     rt: &'a HostRuntime,
     start: Instant,
     window: Option<Win>,
 }
 
 impl Clock<'_> {
+    /// A clock that begins to count now.
+    pub(crate) fn started(rt: &HostRuntime) -> io::Result<Clock<'_>> {
+        let start = Instant::now(rt)?;
+        Ok(Clock {
+            rt,
+            start,
+            window: None,
+        })
+    }
+
     // The window. A new screen has none yet, and a window that does not fit is refused: there is none on a screen that is
     // too narrow.
     fn window(&mut self, screen: &mut Screen) -> Result<Option<Win>, WinFault> {
@@ -59,17 +68,4 @@ impl Program for Clock<'_> {
     fn wait(&self) -> Option<u32> {
         Some(2)
     }
-}
-
-fn main(rt: HostRuntime) -> Result<()> {
-    let mut terminal = match std::env::args(&rt)?.count() {
-        0 | 1 => TerminalScreen::open(&rt)?,
-        _ => TerminalScreen::open_entry(&rt, bundled(rt.alloc())?)?,
-    };
-    let mut clock = Clock {
-        rt: &rt,
-        start: Instant::now(&rt)?,
-        window: None,
-    };
-    Ok(terminal.run(&rt, &mut clock)?)
 }

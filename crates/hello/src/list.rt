@@ -1,14 +1,12 @@
-//! A list of a hundred lines with a highlight, which keys move; `q` ends. Any argument selects the bundled entry.
-#![tactic(auto)]
+//! A list of a hundred lines with a highlight, which keys move; `q` ends.
 
-use anyhow::Result;
-use curses::{Attrs, Key, Screen, Win, WinFault, bundled, keys};
-use terminal::{Event, Program, TerminalScreen};
+use curses::{Attrs, Key, Screen, Win, WinFault, keys};
+use terminal::{Event, Program};
 
 const LINES: u32 = 100;
 
 #[derive(Default, Drop)]
-struct List {
+pub(crate) struct List {
     chosen: u32,
     top: u32,
     rows: u32,
@@ -49,12 +47,4 @@ impl Program for List {
         .min(LINES - 1);
         true
     }
-}
-
-fn main(rt: HostRuntime) -> Result<()> {
-    let mut terminal = match std::env::args(&rt)?.count() {
-        0 | 1 => TerminalScreen::open(&rt)?,
-        _ => TerminalScreen::open_entry(&rt, bundled(rt.alloc())?)?,
-    };
-    Ok(terminal.run(&rt, &mut List::default())?)
 }
