@@ -2,13 +2,13 @@ use Rattle.std.proofs.Common.{ap, refl, sym, true, [], ◌∙◌, ◌++◌, if�
 use Rattle.scr_plan.specs.Repaints.{joined_places, without_idle}
 use Rattle.scr_plan.specs.Scratch.{places_cursor, resets}
 use Rattle.scr_plan.proofs.JoinedLaws.{joined_assoc}
-use Rattle.scr_plan.proofs.joined_changes.joined.Goals as goal
+use Rattle.scr_plan.proofs.joined_changes.joined_by.Goals as goal
 
 pub returns : goal.returns
 returns c =
-    let profile = c.args.update.now.scene.profile.now in
-    let picture = c.args.update.now.wanted.now.picture in
-    let memory = c.args.update.now.memory.now in
+    let profile = c.args.scene.now.profile.now in
+    let picture = c.args.scene.now.picture.now in
+    let memory = c.args.memory.now in
     let all = resets profile ++ joined_places profile picture memory ++ resets profile ++ places_cursor picture.wish in
     let end = c.in_ok-join_changes.ensures.all refl true c.in_ok-ops.ops.items memory.state (resets profile) c.in_ok-joining.ensures in
     end.ops refl
