@@ -3,10 +3,10 @@
 
 use crate::operations::add_op;
 use crate::subjects::{Subjects, ready};
-use check_harness::answers::add_text;
+use check_harness::answers::{add_count, add_text};
 use check_harness::troubles::Trouble;
 use check_harness::words::Line;
-use generated_sessions::{add_count, add_defined, bytes_of, joined_on, scratch_on, step_on};
+use generated_sessions::{add_defined, bytes_of, joined_on, scratch_on, step_on};
 use scr_cells::{NoMemory, Picture};
 use scr_plan::{plain, scratch_bytes};
 use scr_term::{Op, Ops, Profile};

@@ -1,7 +1,7 @@
 //! Lines about the entry.
 
-use crate::answers::{add_done, add_entry, add_made, add_size, keep, read_slot};
-use check_harness::answers::{add_any, add_flag, add_number, add_text, add_word};
+use crate::answers::{add_done, add_entry, add_made, keep, read_slot};
+use check_harness::answers::{add_any, add_count, add_flag, add_number, add_text, add_word};
 use check_harness::troubles::Trouble;
 use check_harness::words::{Line, Words};
 use ti_caps::{CapFault, Entry, Slot, bundled};
@@ -64,10 +64,10 @@ fn show(entry: &Entry, line: &mut Line<'_>) {
             add_flag(are_same(bundled, entry), got);
         }),
         "names" => add_text(entry.names(), got),
-        "unnamed" => add_size(entry.unnamed(), got),
+        "unnamed" => add_count(entry.unnamed() as u64, got),
         "print" => add_made(print(alloc, entry), got, |printed, got| {
             add_text(&printed.text.0, got);
-            add_size(printed.unnamed, got);
+            add_count(printed.unnamed as u64, got);
         }),
         "flag" => add_flag(entry.flag(read_slot(words)), got),
         "number" => add_any(entry.number(read_slot(words)), got, |number, got| {

@@ -1,7 +1,7 @@
 //! Lines about compiled files.
 
-use crate::answers::{add_entry, add_made, add_refusal, add_size};
-use check_harness::answers::{add_number, add_text};
+use crate::answers::{add_entry, add_made, add_refusal};
+use check_harness::answers::{add_count, add_number, add_text};
 use check_harness::buffers::Buffer;
 use check_harness::checking::put;
 use check_harness::troubles::Trouble;
@@ -53,7 +53,7 @@ fn encode_named(entry: &Entry, line: &mut Line<'_>) {
 /// The line `file BYTES`.
 pub fn take_file(file: &mut Vec<u8>, line: &mut Line<'_>) {
     put(file, line.text().into_bytes());
-    add_size(file.len(), &mut line.got);
+    add_count(file.len() as u64, &mut line.got);
 }
 
 /// The lines `decode-wide`, `read-entry` and `list`, which leave all as it is. Tells whether a line is one of them.
@@ -61,15 +61,15 @@ pub fn answer_of_file(file: &[u8], line: &mut Line<'_>) -> bool {
     let (alloc, got) = (line.alloc, &mut line.got);
     match line.name {
         "decode-wide" => add_made(decode_wide(alloc, file), got, |decoded, got| {
-            add_size(decoded.skipped, got);
+            add_count(decoded.skipped as u64, got);
             add_number(i64::from(decoded.clamped), got);
             add_entry(&decoded.entry, got);
         }),
         "read-entry" => add_made(read_entry(alloc, file), got, add_entry),
         "list" => add_made(list(alloc, file), got, |listing, got| {
             add_text(&listing.text.0, got);
-            add_size(listing.unnamed, got);
-            add_size(listing.skipped, got);
+            add_count(listing.unnamed as u64, got);
+            add_count(listing.skipped as u64, got);
         }),
         _ => return false,
     }
@@ -99,7 +99,7 @@ pub fn decode_changed(file: &[u8], entry: &mut Option<Entry>, line: &mut Line<'_
 fn add_decoded(alloc: Global, bytes: &[u8], entry: &mut Option<Entry>, got: &mut Buffer) {
     match decode(alloc, bytes) {
         Ok((decoded, rest)) => {
-            add_size(rest, got);
+            add_count(rest as u64, got);
             add_entry(&decoded, got);
             put(entry, Some(decoded));
         }
@@ -115,7 +115,7 @@ pub fn answer_of_changes(file: &[u8], line: &mut Line<'_>) -> bool {
         "file-bytes" => count_changed(file, line),
         _ => return false,
     };
-    add_size(counted.unwrap_or(0), &mut line.got);
+    add_count(counted.unwrap_or(0) as u64, &mut line.got);
     line.words.check(counted.and(Ok(())));
     true
 }

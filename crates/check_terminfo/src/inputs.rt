@@ -1,7 +1,7 @@
 //! Lines about reading an input, of readers that fail.
 
-use crate::answers::{add_made, add_size};
-use check_harness::answers::{add_text, add_word};
+use crate::answers::add_made;
+use check_harness::answers::{add_count, add_text, add_word};
 use check_harness::troubles::Trouble;
 use check_harness::words::{Line, Words};
 use program_input::read_input;
@@ -65,7 +65,7 @@ fn read_pieces(line: &mut Line<'_>) {
                 add_word("another", got);
             }
         }
-        add_size(bytes.len(), got);
+        add_count(bytes.len() as u64, got);
     });
 }
 

@@ -1,7 +1,7 @@
 //! Lines about parameter strings.
 
-use crate::answers::{add_made, add_refusal, add_size};
-use check_harness::answers::{add_text, add_word};
+use crate::answers::{add_made, add_refusal};
+use check_harness::answers::{add_count, add_text, add_word};
 use check_harness::buffers::Buffer;
 use check_harness::words::Line;
 use ti_param::{Program, RunFault, Vars, strip_padding};
@@ -21,8 +21,8 @@ pub fn answer_of_programs(line: &mut Line<'_>) -> bool {
     }
     add_made(Program::read(alloc, text.bytes()), got, |program, got| {
         if name == "measure" {
-            add_size(program.bound(), got);
-            add_size(program.depth(), got);
+            add_count(program.bound() as u64, got);
+            add_count(program.depth() as u64, got);
         } else {
             add_word("Ok", got);
         }

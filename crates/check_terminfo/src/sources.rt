@@ -1,9 +1,9 @@
 //! Lines about sources.
 
 use crate::answers::{
-    add_entry, add_entry_if_any, add_made, add_note, add_notes, add_size, is_taken_back, keep,
+    add_entry, add_entry_if_any, add_made, add_note, add_notes, is_taken_back, keep,
 };
-use check_harness::answers::{add_any, add_number, add_text, add_word};
+use check_harness::answers::{add_any, add_count, add_number, add_text, add_word};
 use check_harness::buffers::{Buffer, are_same};
 use check_harness::checking::put;
 use check_harness::troubles::Trouble;
@@ -84,7 +84,7 @@ fn add_length(source: &Option<Source>, words: &mut Words<'_>, got: &mut Buffer) 
         if source.is_empty() != (source.len() == 0) {
             words.fail(Trouble::Bad("is_empty and len differ"));
         }
-        add_size(source.len(), got);
+        add_count(source.len() as u64, got);
     }
 }
 
@@ -98,13 +98,13 @@ fn add_beginnings(alloc: Global, text: &[u8], got: &mut Buffer) -> Result<(), Tr
         add_made(
             source,
             &mut read,
-            |source, read| add_size(source.len(), read),
+            |source, read| add_count(source.len() as u64, read),
         );
         if read.bytes().ends_with(b" NoMemory") {
             return Err(Trouble::NoMemory);
         }
         if !are_same(&read, &before)? {
-            add_size(length, got);
+            add_count(length as u64, got);
             got.extend(read.bytes());
             put(&mut before, read);
         }
@@ -256,7 +256,7 @@ fn add_compiled(compiled: &Compiled, got: &mut Buffer) {
     for (name, size) in &compiled.sizes.0 {
         add_word("size", got);
         add_text(&name.0, got);
-        add_size(*size, got);
+        add_count(*size as u64, got);
     }
     for note in &compiled.notes.0 {
         add_word("note", got);

@@ -1,7 +1,7 @@
 //! Lines about whole entries: those with all names of term.h, numbers up to 2,147,483,647 and extended capabilities.
 
-use crate::answers::{add_entry, add_made, add_refusal, add_size};
-use check_harness::answers::{add_flag, add_name, add_number, add_text, add_word};
+use crate::answers::{add_entry, add_made, add_refusal};
+use check_harness::answers::{add_count, add_flag, add_name, add_number, add_text, add_word};
 use check_harness::buffers::Buffer;
 use check_harness::checking::put;
 use check_harness::words::Line;
@@ -36,7 +36,7 @@ pub fn answer_of_whole(file: &mut Vec<u8>, line: &mut Line<'_>) -> bool {
         }),
         "print-whole" => add_made(printed(alloc, file.as_slice()), got, |printed, got| {
             add_text(&printed.text.0, got);
-            add_size(printed.unnamed, got);
+            add_count(printed.unnamed as u64, got);
         }),
         _ => return false,
     }
@@ -121,7 +121,7 @@ fn add_whole(whole: &WholeEntry, got: &mut Buffer) {
             && *number > 32_767
         {
             add_word("great", got);
-            add_size(position, got);
+            add_count(position as u64, got);
             add_number(i64::from(*number), got);
         }
     }
