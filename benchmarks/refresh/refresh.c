@@ -1,5 +1,5 @@
-/* Calls ncurses' touchline and wnoutrefresh again and again, as crates/bench_screen does with ours.
-   Usage: refresh touch|take|take_new ROWS COLUMNS LINES COUNT */
+/* Calls touchline and wnoutrefresh of curses.h again and again, or paints the whole screen, on the entry that TERM names.
+   Usage: refresh touch|take|take_new|paint ROWS COLUMNS LINES COUNT */
 #include <curses.h>
 #include <stdio.h>
 #include <stdlib.h>
@@ -13,7 +13,8 @@ int main(int argc, char **argv) {
     /* The size of the screen is that of these variables. */
     setenv("LINES", argv[2], 1);
     setenv("COLUMNS", argv[3], 1);
-    if (!newterm("xterm", fopen("/dev/null", "w"), fopen("/dev/null", "r"))) return 1;
+    const char *entry = getenv("TERM");
+    if (!entry || !newterm(entry, fopen("/dev/null", "w"), fopen("/dev/null", "r"))) return 1;
     if (LINES != atoi(argv[2]) || COLS != atoi(argv[3])) return 1;
     WINDOW *first = stdscr;
     WINDOW *second = newwin(0, 0, 0, 0);
@@ -22,12 +23,19 @@ int main(int argc, char **argv) {
     werase(first);
     wbkgdset(second, 'y');
     werase(second);
+    /* No update looks for input. */
+    typeahead(-1);
     int takes = strncmp(action, "take", 4) == 0;
-    WINDOW *windows[2] = {first, strcmp(action, "take") == 0 ? first : second};
+    int paints = strcmp(action, "paint") == 0;
+    WINDOW *windows[2] = {first, paints || strcmp(action, "take") == 0 ? first : second};
     for (long done = 0; done < count; done++) {
         WINDOW *window = windows[done % 2];
-        wtouchln(window, 0, lines, 1);
-        if (takes && wnoutrefresh(window) == ERR) return 1;
+        if (paints)
+            redrawwin(window);
+        else
+            wtouchln(window, 0, lines, 1);
+        if ((takes || paints) && wnoutrefresh(window) == ERR) return 1;
+        if (paints && doupdate() == ERR) return 1;
     }
     return 0;
 }

@@ -7,22 +7,20 @@
 # pens, one page is shown for the other, all lines move by one, and a letter is typed into the middle of a line. Both
 # sides make the same calls, write into memory, and show the screen already when counting begins. What comes before is
 # counted by itself and taken away: the drawing, and for doupdate alone the taking too.
-# There are two tables. In the first the entry is the bundled one, compiled by tic, for the last two changes with the
-# texts that insert and delete lines and characters, and ours are the calls of the library's own language. In the second
-# it is the machine's xterm, and ours is the same C source as theirs, over curses.h of here.
-# It needs valgrind, a C compiler, libncurses-dev, ncurses' tic, ncurses-base, the program crates/bench_screen, which
-# `rt run` builds, and libhuttavel.a in c/, which make builds there.
-# Usage: benchmarks/update/run.sh PROGRAM ["ROWS COLUMNS" ..], from the top of the repository.
+# There are two tables, and ours is the same C source as theirs in both, over curses.h of here. In the first the entry is
+# the bundled one, compiled by tic, for the last two changes with the texts that insert and delete lines and characters.
+# In the second it is the machine's xterm.
+# It needs valgrind, a C compiler, libncurses-dev, ncurses' tic, ncurses-base, and libhuttavel.a in c/, which make builds
+# there.
+# Usage: benchmarks/update/run.sh ["ROWS COLUMNS" ..], from the top of the repository.
 set -e
 here=$(dirname "$0")
 top=$here/../..
-[ -n "$1" ] && [ -e "$top/c/libhuttavel.a" ] || { sed -n 's/^# Usage: /usage: /p' "$0" >&2; exit 2; }
-program="$1 update"
-shift
+[ -e "$top/c/libhuttavel.a" ] || { sed -n 's/^# Usage: /usage: /p' "$0" >&2; exit 2; }
 [ $# -gt 0 ] || set -- "24 80" "50 132" "100 300" "500 500"
 folder=$(mktemp -d)
 trap 'rm -rf "$folder"' EXIT
-cc -O2 -o "$folder/update" "$here/update.c" -lncurses -ltinfo
+cc -O2 -o "$folder/ncurses" "$here/update.c" -lncurses -ltinfo
 make -s -C "$top/c" curses
 cc -O2 -I "$top/c" -I "$top/include" -o "$folder/ours" "$here/update.c" \
     "$top/c/out/libhuttavel_curses.a" "$top/c/libhuttavel.a"
@@ -61,7 +59,7 @@ stages() {
     echo "$((${whole% *} - ${drawing% *})) $((${whole% *} - ${taking% *})) ${whole#* }"
 }
 
-# row WORDS CHANGE ROWS COLUMNS NUMBER: a line of the table of $ours on $entry.
+# row WORDS CHANGE ROWS COLUMNS NUMBER: a line of the table on $entry.
 row() {
     words=$1
     shift
@@ -69,7 +67,7 @@ row() {
     case $entry,$1 in
     ecma48,moved | ecma48,letter) TERM=ecma48-moving ;;
     esac
-    set -- "$words" "$2x$3" $(stages "$ours" "$@") $(stages "$folder/update" "$@")
+    set -- "$words" "$2x$3" $(stages "$folder/ours" "$@") $(stages "$folder/ncurses" "$@")
     sent="-"
     [ "$8" = 0 ] || sent=$(ratio "$5" "$8")
     echo "$1 | $2 | $(tenths "$3") | $(tenths "$6") | $(ratio "$3" "$6") | $(tenths "$4") | $(tenths "$7") | $(ratio "$4" "$7") |" \
@@ -90,11 +88,11 @@ rows() {
     row "a letter in a line" letter "$1" "$2" 0
 }
 
-# table OURS ENTRY WORDS SIZE..: the lines of all sizes
+# table ENTRY WORDS SIZE..: the lines of all sizes
 table() {
-    ours=$1 entry=$2
-    echo "$3"
-    shift 3
+    entry=$1
+    echo "$2"
+    shift 2
     echo "change | size | taking and doupdate: ours | ncurses | ratio | doupdate: ours | ncurses | ratio | bytes: ours | ncurses | ratio"
     for size in "$@"; do
         # shellcheck disable=SC2086
@@ -102,6 +100,6 @@ table() {
     done
 }
 
-table "$program" ecma48 "the bundled entry:" "$@"
+table ecma48 "the bundled entry:" "$@"
 echo
-table "$folder/ours" xterm "xterm:" "$@"
+table xterm "xterm:" "$@"

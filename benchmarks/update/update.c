@@ -1,4 +1,4 @@
-/* Draws, takes and updates by curses.h again and again, on the entry that TERM names. crates/bench_screen does the same.
+/* Draws, takes and updates by curses.h again and again, on the entry that TERM names.
    Usage: update draw|take|update character|lines|status|scattered|page|moved|letter ROWS COLUMNS NUMBER COUNT */
 #define _GNU_SOURCE
 #include <curses.h>

@@ -1,4 +1,4 @@
-/* Calls one of ncurses' window calls again and again, as crates/bench_screen does with ours.
+/* Calls one of the window calls of curses.h again and again.
    Usage: windows add|feed|erase|copy|scroll|background ROWS COLUMNS COUNT */
 #include <curses.h>
 #include <stdio.h>
@@ -6,6 +6,9 @@
 #include <string.h>
 
 static const char line[] = "The quick brown fox jumps over the lazy dog, and the dog sleeps on as if nothing";
+
+/* A cell that was read. */
+static volatile chtype seen;
 
 int main(int argc, char **argv) {
     if (argc != 5) return 2;
@@ -37,5 +40,7 @@ int main(int argc, char **argv) {
             return 2;
         }
     }
+    /* What was written may be kept until something is asked. */
+    seen = winch(window);
     return 0;
 }

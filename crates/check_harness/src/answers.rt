@@ -19,6 +19,11 @@ pub fn add_number(number: i64, got: &mut Buffer) {
     add_bytes(digits.format(number).as_bytes(), got);
 }
 
+/// Adds a count.
+pub fn add_count(count: u64, got: &mut Buffer) {
+    add_number(i64::try_from(count).unwrap_or(i64::MAX), got);
+}
+
 /// Adds a text.
 pub fn add_text(text: &[u8], got: &mut Buffer) {
     got.push(b' ');

@@ -1,10 +1,10 @@
 //! Lines about the columns of each row that a copy may have changed.
 ghost use Rattle.std.specs.Prelude.{◌≡◌};
 
-use check_harness::answers::add_any_place;
+use check_harness::answers::{add_any_place, add_count};
 use check_harness::troubles::Trouble;
 use check_harness::words::Line;
-use generated_sessions::{add_count, bytes_of};
+use generated_sessions::bytes_of;
 use scr_cells::{Attrs, NoMemory, Size};
 use scr_memory::Memory;
 use scr_plan::{plan, up_to_date_laws};

@@ -4,10 +4,9 @@ use crate::entries::add_profile_fault;
 use crate::operations::read_op;
 use crate::subjects::{Subjects, keep, ready};
 use crate::terminals::add_size;
-use check_harness::answers::{add_any, add_flag, add_number, add_text, add_word};
+use check_harness::answers::{add_any, add_count, add_flag, add_number, add_text, add_word};
 use check_harness::troubles::Trouble;
 use check_harness::words::Line;
-use generated_sessions::add_count;
 use scr_term::{Profile, ProfileFault};
 
 /// The lines `profile R C`, `admit` and `admit R C`, which make a profile, and those that say what it tells. Tells

@@ -3,10 +3,10 @@
 
 use crate::operations::add_op;
 use crate::subjects::{Subjects, ready};
-use check_harness::answers::add_text;
+use check_harness::answers::{add_count, add_text};
 use check_harness::troubles::Trouble;
 use check_harness::words::Line;
-use generated_sessions::{add_count, add_defined, bytes_of, joined_on, scratch_on};
+use generated_sessions::{add_defined, bytes_of, joined_on, scratch_on, step_on};
 use scr_cells::{NoMemory, Picture};
 use scr_plan::{plain, scratch_bytes};
 use scr_term::{Op, Ops, Profile};
@@ -80,13 +80,18 @@ fn painted(subjects: &Subjects) -> Result<(&Profile, &Picture), Trouble> {
     ))
 }
 
+// The joined repaint, which the terminal does.
 fn joined_of(alloc: Global, subjects: &mut Subjects) -> Result<Ops, Trouble> {
     let profile = ready(&subjects.profile, "no profile")?;
     let picture = ready(&subjects.picture, "no picture")?;
-    match &mut subjects.terminal {
-        Some(terminal) => joined_on(alloc, profile, terminal, picture),
-        None => Err(Trouble::Bad("no terminal")),
+    let Some(terminal) = &mut subjects.terminal else {
+        return Err(Trouble::Bad("no terminal"));
+    };
+    let ops = joined_on(alloc, profile, terminal, picture)?;
+    for op in &ops.0 {
+        let _ = step_on(terminal, profile, *op)?;
     }
+    Ok(ops)
 }
 
 fn plain_of(alloc: Global, subjects: &Subjects) -> Result<Ops, Trouble> {

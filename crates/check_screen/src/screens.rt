@@ -4,13 +4,13 @@ use crate::changed::check_changed;
 use crate::shown::answer_of_shown;
 use crate::subjects::Subjects;
 use crate::windows::answer_of_windows;
-use check_harness::answers::{add_name, add_word};
+use check_harness::answers::{add_count, add_name, add_word};
 use check_harness::buffers::Buffer;
 use check_harness::troubles::Trouble;
 use check_harness::words::{Line, Words};
 use curses::{Device, OpenFault, Screen};
 use generated_sessions::{
-    MOVING, Recorded, add_count, check_sessions, count_cuts, obey, opening_of, read_entry,
+    MOVING, Recorded, check_sessions, count_cuts, obey, opening_of, read_entry,
 };
 use scr_cells::Size;
 use scr_windows::Win;

@@ -2,12 +2,12 @@
 
 use crate::pictures::{add_seen, add_wish};
 use crate::terminals::add_at;
-use check_harness::answers::{add_name, add_text, add_text_shown, add_word};
+use check_harness::answers::{add_count, add_name, add_text, add_text_shown, add_word};
 use check_harness::buffers::Buffer;
 use check_harness::texts::write_byte;
 use check_harness::troubles::Trouble;
 use check_harness::words::Line;
-use generated_sessions::{Recorded, add_count, add_spot};
+use generated_sessions::{Recorded, add_spot};
 use scr_term::Op;
 
 /// The lines `shown_rows`, `shown_cursor`, `shown R C` about the emulated screen, `picture_rows`, `picture_at R C` and

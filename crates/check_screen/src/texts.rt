@@ -1,12 +1,13 @@
 //! Lines about a text that is edited.
 
 use crate::subjects::{Subjects, keep};
-use check_harness::answers::{add_any, add_done, add_flag, add_made, add_name, add_text, add_word};
+use check_harness::answers::{
+    add_any, add_count, add_done, add_flag, add_made, add_name, add_text, add_word,
+};
 use check_harness::buffers::Buffer;
 use check_harness::troubles::Trouble;
 use check_harness::words::{Line, Words};
 use edit_text::{Part, Place, Text};
-use generated_sessions::add_count;
 
 /// The lines `new` and `read TEXT`, which make a text, and those that change it or ask. Tells whether a line is one of
 /// them.

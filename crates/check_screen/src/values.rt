@@ -1,11 +1,10 @@
 //! Lines about sizes, sets of attributes, cells and looks, and rows of these.
 
 use bitflags::Flags;
-use check_harness::answers::{add_any, add_cell, add_flag, add_look, add_number};
+use check_harness::answers::{add_any, add_cell, add_count, add_flag, add_look, add_number};
 use check_harness::buffers::Buffer;
 use check_harness::troubles::Trouble;
 use check_harness::words::{Line, Words};
-use generated_sessions::add_count;
 use scr_cells::{
     Attrs, Cell, Charset, Look, Size, first_difference, first_look_difference, last_difference,
     last_look_difference, shown_before,

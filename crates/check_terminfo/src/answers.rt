@@ -14,11 +14,6 @@ pub fn read_slot(words: &mut Words<'_>) -> Slot {
     Slot(u16::try_from(words.number()).unwrap_or(u16::MAX))
 }
 
-/// Adds a size.
-pub fn add_size(size: usize, got: &mut Buffer) {
-    add_number(i64::try_from(size).unwrap_or(i64::MAX), got);
-}
-
 /// Adds what was made, or that it was refused.
 pub fn add_made<T: Drop, F: Display + Drop, A: FnOnce(&T, &mut Buffer)>(
     made: Result<T, F>,

@@ -3,52 +3,39 @@
 use crate::answers::{add_entry, add_made};
 use check_harness::answers::{add_text, add_word};
 use check_harness::buffers::Buffer;
-use check_harness::words::Words;
+use check_harness::words::{Line, Words};
 use std::alloc::Global;
 use ti_caps::Bytes;
 use ti_database::{FilePath, MemoryFiles, Variables, find_in, paths};
 
 /// The line `store PATH BYTES ..`: files in place of those before.
-pub fn store(alloc: Global, store: &mut MemoryFiles, words: &mut Words<'_>, got: &mut Buffer) {
+pub fn store(store: &mut MemoryFiles, line: &mut Line<'_>) {
     store.0.clear();
     for _ in 0..u32::MAX {
-        if words.is_at_end() {
+        if line.words.is_at_end() {
             break;
         }
-        store_file(alloc, store, words, got);
+        store_file(store, line);
     }
-    add_word("Ok", got);
+    add_word("Ok", &mut line.got);
 }
 
-fn store_file(alloc: Global, store: &mut MemoryFiles, words: &mut Words<'_>, got: &mut Buffer) {
-    let path = FilePath(read_bytes(alloc, words));
-    let bytes = Bytes(read_bytes(alloc, words));
+fn store_file(store: &mut MemoryFiles, line: &mut Line<'_>) {
+    let path = FilePath(line.text().into_bytes());
+    let bytes = Bytes(line.text().into_bytes());
     let pushed = store.0.push((path, bytes));
-    got.check(pushed.is_ok());
-}
-
-// Reads a text.
-fn read_bytes(alloc: Global, words: &mut Words<'_>) -> Vec<u8> {
-    let mut bytes = Buffer::new(alloc);
-    words.text(&mut bytes);
-    bytes.into_bytes()
+    line.got.check(pushed.is_ok());
 }
 
 /// The lines `paths NAME VARIABLE=VALUE..` and `look-up NAME VARIABLE=VALUE..`. Tells whether a line is one of them.
-pub fn answer_of_database(
-    alloc: Global,
-    store: &MemoryFiles,
-    word: &str,
-    words: &mut Words<'_>,
-    text: &mut Buffer,
-    got: &mut Buffer,
-) -> bool {
-    if word != "paths" && word != "look-up" {
+pub fn answer_of_database(store: &MemoryFiles, line: &mut Line<'_>) -> bool {
+    if line.name != "paths" && line.name != "look-up" {
         return false;
     }
-    words.text(text);
-    let variables = read_variables(alloc, words, got);
-    if word == "paths" {
+    let text = line.text();
+    let (alloc, got) = (line.alloc, &mut line.got);
+    let variables = read_variables(alloc, &mut line.words, got);
+    if line.name == "paths" {
         add_made(paths(alloc, text.bytes(), &variables), got, |paths, got| {
             for path in &paths.0 {
                 add_text(&path.0, got);

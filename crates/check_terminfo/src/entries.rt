@@ -1,55 +1,46 @@
 //! Lines about the entry.
 
-use crate::answers::{add_done, add_entry, add_made, add_size, keep, read_slot};
-use check_harness::answers::{add_any, add_flag, add_number, add_text, add_word};
-use check_harness::buffers::Buffer;
+use crate::answers::{add_done, add_entry, add_made, keep, read_slot};
+use check_harness::answers::{add_any, add_count, add_flag, add_number, add_text, add_word};
 use check_harness::troubles::Trouble;
-use check_harness::words::Words;
-use std::alloc::Global;
+use check_harness::words::{Line, Words};
 use ti_caps::{CapFault, Entry, Slot, bundled};
 use ti_source::print;
 
 /// The line `entry NAMES`, and those about the entry that there is. Tells whether a line is one of them.
-pub fn answer_of_entry(
-    alloc: Global,
-    entry: &mut Option<Entry>,
-    word: &str,
-    words: &mut Words<'_>,
-    text: &mut Buffer,
-    got: &mut Buffer,
-) -> bool {
-    match word {
-        "entry" => make_entry(alloc, entry, words, text, got),
+pub fn answer_of_entry(entry: &mut Option<Entry>, line: &mut Line<'_>) -> bool {
+    match line.name {
+        "entry" => make_entry(entry, line),
         "shown" | "is-bundled" | "names" | "unnamed" | "print" | "flag" | "number" | "text" =>
             match entry {
-                Some(entry) => show(alloc, entry, word, words, got),
-                None => words.fail(Trouble::Bad("no entry")),
+                Some(entry) => show(entry, line),
+                None => line.words.fail(Trouble::Bad("no entry")),
             },
         "set-flag" | "set-number" | "set-text" => match entry {
-            Some(entry) => set(entry, word, words, text, got),
-            None => words.fail(Trouble::Bad("no entry")),
+            Some(entry) => set(entry, line),
+            None => line.words.fail(Trouble::Bad("no entry")),
         },
         "colours-first" => match entry {
             Some(entry) => {
                 entry.colours_first();
-                add_word("Ok", got);
+                add_word("Ok", &mut line.got);
             }
-            None => words.fail(Trouble::Bad("no entry")),
+            None => line.words.fail(Trouble::Bad("no entry")),
         },
-        "copy" => copy(entry, words, got),
+        "copy" => copy(entry, line),
         _ => return false,
     }
     true
 }
 
 // Puts a copy of the entry in its place.
-fn copy(entry: &mut Option<Entry>, words: &mut Words<'_>, got: &mut Buffer) {
+fn copy(entry: &mut Option<Entry>, line: &mut Line<'_>) {
     let made = match entry {
         Some(entry) => copy_of(entry),
-        None => return words.fail(Trouble::Bad("no entry")),
+        None => return line.words.fail(Trouble::Bad("no entry")),
     };
-    if keep(made, entry, got) {
-        add_word("Ok", got);
+    if keep(made, entry, &mut line.got) {
+        add_word("Ok", &mut line.got);
     }
 }
 
@@ -57,31 +48,26 @@ fn copy_of(entry: &Entry) -> Result<Entry, CapFault> {
     Ok(entry.clone()?)
 }
 
-fn make_entry(
-    alloc: Global,
-    entry: &mut Option<Entry>,
-    words: &mut Words<'_>,
-    text: &mut Buffer,
-    got: &mut Buffer,
-) {
-    words.text(text);
-    if keep(Entry::new(alloc, text.bytes()), entry, got) {
-        add_word("Ok", got);
+fn make_entry(entry: &mut Option<Entry>, line: &mut Line<'_>) {
+    let text = line.text();
+    if keep(Entry::new(line.alloc, text.bytes()), entry, &mut line.got) {
+        add_word("Ok", &mut line.got);
     }
 }
 
 // The lines `shown`, `is-bundled`, `names`, `unnamed`, `print`, and `flag N`, `number N` and `text N`.
-fn show(alloc: Global, entry: &Entry, word: &str, words: &mut Words<'_>, got: &mut Buffer) {
-    match word {
+fn show(entry: &Entry, line: &mut Line<'_>) {
+    let (alloc, words, got) = (line.alloc, &mut line.words, &mut line.got);
+    match line.name {
         "shown" => add_entry(entry, got),
         "is-bundled" => add_made(bundled(alloc), got, |bundled, got| {
             add_flag(are_same(bundled, entry), got);
         }),
         "names" => add_text(entry.names(), got),
-        "unnamed" => add_size(entry.unnamed(), got),
+        "unnamed" => add_count(entry.unnamed() as u64, got),
         "print" => add_made(print(alloc, entry), got, |printed, got| {
             add_text(&printed.text.0, got);
-            add_size(printed.unnamed, got);
+            add_count(printed.unnamed as u64, got);
         }),
         "flag" => add_flag(entry.flag(read_slot(words)), got),
         "number" => add_any(entry.number(read_slot(words)), got, |number, got| {
@@ -93,18 +79,18 @@ fn show(alloc: Global, entry: &Entry, word: &str, words: &mut Words<'_>, got: &m
 
 // The lines `set-flag N yes`, `set-number N NUMBER` and `set-text N TEXT`; without a last word a capability becomes
 // absent.
-fn set(entry: &mut Entry, word: &str, words: &mut Words<'_>, text: &mut Buffer, got: &mut Buffer) {
-    let slot = read_slot(words);
-    let done = match word {
-        "set-flag" => entry.set_flag(slot, words.next() == b"yes".as_slice()),
-        "set-number" => set_number(entry, slot, words),
-        _ if words.is_at_end() => entry.set_text(slot, None),
+fn set(entry: &mut Entry, line: &mut Line<'_>) {
+    let slot = read_slot(&mut line.words);
+    let done = match line.name {
+        "set-flag" => entry.set_flag(slot, line.words.next() == b"yes".as_slice()),
+        "set-number" => set_number(entry, slot, &mut line.words),
+        _ if line.words.is_at_end() => entry.set_text(slot, None),
         _ => {
-            words.text(text);
+            let text = line.text();
             entry.set_text(slot, Some(text.bytes()))
         }
     };
-    add_done(done, got);
+    add_done(done, &mut line.got);
 }
 
 // Sets a number, at most 32,767, or removes it.

@@ -1,11 +1,11 @@
 //! Lines about compiled files.
 
-use crate::answers::{add_entry, add_made, add_refusal, add_size};
-use check_harness::answers::{add_number, add_text};
+use crate::answers::{add_entry, add_made, add_refusal};
+use check_harness::answers::{add_count, add_number, add_text};
 use check_harness::buffers::Buffer;
 use check_harness::checking::put;
 use check_harness::troubles::Trouble;
-use check_harness::words::Words;
+use check_harness::words::Line;
 use std::alloc::Global;
 use ti_binary::{BinFault, decode, decode_wide};
 use ti_caps::{Bytes, Entry, are_names};
@@ -13,22 +13,14 @@ use ti_compile::{TicFault, list};
 use ti_database::read_entry;
 
 /// The lines `encode` and `encode-named NAMES`, which write the file of an entry. Tells whether a line is one of them.
-pub fn answer_of_writing(
-    alloc: Global,
-    entry: &Option<Entry>,
-    file: &mut Vec<u8>,
-    word: &str,
-    words: &mut Words<'_>,
-    text: &mut Buffer,
-    got: &mut Buffer,
-) -> bool {
-    if word != "encode" && word != "encode-named" {
+pub fn answer_of_writing(entry: &Option<Entry>, file: &mut Vec<u8>, line: &mut Line<'_>) -> bool {
+    if line.name != "encode" && line.name != "encode-named" {
         return false;
     }
     match entry {
-        Some(entry) if word == "encode" => encode(alloc, entry, file, got),
-        Some(entry) => encode_named(alloc, entry, words, text, got),
-        None => words.fail(Trouble::Bad("no entry")),
+        Some(entry) if line.name == "encode" => encode(line.alloc, entry, file, &mut line.got),
+        Some(entry) => encode_named(entry, line),
+        None => line.words.fail(Trouble::Bad("no entry")),
     }
     true
 }
@@ -43,44 +35,41 @@ fn encode(alloc: Global, entry: &Entry, file: &mut Vec<u8>, got: &mut Buffer) {
     }
 }
 
-fn encode_named(
-    alloc: Global,
-    entry: &Entry,
-    words: &mut Words<'_>,
-    text: &mut Buffer,
-    got: &mut Buffer,
-) {
-    words.text(text);
+fn encode_named(entry: &Entry, line: &mut Line<'_>) {
+    let text = line.text();
     let names = text.bytes();
     if !are_names(names) {
-        words.fail(Trouble::Bad("no names"));
+        line.words.fail(Trouble::Bad("no names"));
         return;
     }
-    let encoded = ti_binary::encode_named(alloc, entry, names);
-    add_made(encoded, got, |encoded, got| add_text(&encoded.0, got));
+    let encoded = ti_binary::encode_named(line.alloc, entry, names);
+    add_made(
+        encoded,
+        &mut line.got,
+        |encoded, got| add_text(&encoded.0, got),
+    );
 }
 
 /// The line `file BYTES`.
-pub fn take_file(alloc: Global, file: &mut Vec<u8>, words: &mut Words<'_>, got: &mut Buffer) {
-    let mut taken = Buffer::new(alloc);
-    words.text(&mut taken);
-    put(file, taken.into_bytes());
-    add_size(file.len(), got);
+pub fn take_file(file: &mut Vec<u8>, line: &mut Line<'_>) {
+    put(file, line.text().into_bytes());
+    add_count(file.len() as u64, &mut line.got);
 }
 
 /// The lines `decode-wide`, `read-entry` and `list`, which leave all as it is. Tells whether a line is one of them.
-pub fn answer_of_file(alloc: Global, file: &[u8], word: &str, got: &mut Buffer) -> bool {
-    match word {
+pub fn answer_of_file(file: &[u8], line: &mut Line<'_>) -> bool {
+    let (alloc, got) = (line.alloc, &mut line.got);
+    match line.name {
         "decode-wide" => add_made(decode_wide(alloc, file), got, |decoded, got| {
-            add_size(decoded.skipped, got);
+            add_count(decoded.skipped as u64, got);
             add_number(i64::from(decoded.clamped), got);
             add_entry(&decoded.entry, got);
         }),
         "read-entry" => add_made(read_entry(alloc, file), got, add_entry),
         "list" => add_made(list(alloc, file), got, |listing, got| {
             add_text(&listing.text.0, got);
-            add_size(listing.unnamed, got);
-            add_size(listing.skipped, got);
+            add_count(listing.unnamed as u64, got);
+            add_count(listing.skipped as u64, got);
         }),
         _ => return false,
     }
@@ -88,16 +77,10 @@ pub fn answer_of_file(alloc: Global, file: &[u8], word: &str, got: &mut Buffer) 
 }
 
 /// The line `decode`, or `changed INDEX BYTE..`, which reads the file with bytes changed.
-pub fn decode_changed(
-    alloc: Global,
-    file: &[u8],
-    entry: &mut Option<Entry>,
-    words: &mut Words<'_>,
-    text: &mut Buffer,
-    got: &mut Buffer,
-) {
-    text.clear();
+pub fn decode_changed(file: &[u8], entry: &mut Option<Entry>, line: &mut Line<'_>) {
+    let mut text = Buffer::new(line.alloc);
     text.extend(file);
+    let words = &mut line.words;
     words.check(text.done());
     for _ in 0..u32::MAX {
         if words.is_at_end() {
@@ -109,14 +92,14 @@ pub fn decode_changed(
             None => words.fail(Trouble::Bad("no such index in the file")),
         }
     }
-    add_decoded(alloc, text.bytes(), entry, got);
+    add_decoded(line.alloc, text.bytes(), entry, &mut line.got);
 }
 
 // Adds what bytes are read as, which is the entry then.
 fn add_decoded(alloc: Global, bytes: &[u8], entry: &mut Option<Entry>, got: &mut Buffer) {
     match decode(alloc, bytes) {
         Ok((decoded, rest)) => {
-            add_size(rest, got);
+            add_count(rest as u64, got);
             add_entry(&decoded, got);
             put(entry, Some(decoded));
         }
@@ -125,21 +108,15 @@ fn add_decoded(alloc: Global, bytes: &[u8], entry: &mut Option<Entry>, got: &mut
 }
 
 /// The lines `file-cuts`, `wide-cuts` and `file-bytes BYTE..`. Tells whether a line is one of them.
-pub fn answer_of_changes(
-    alloc: Global,
-    file: &[u8],
-    word: &str,
-    words: &mut Words<'_>,
-    text: &mut Buffer,
-    got: &mut Buffer,
-) -> bool {
-    let counted = match word {
-        "file-cuts" | "wide-cuts" => count_truncated(alloc, file, word == "wide-cuts"),
-        "file-bytes" => count_changed(alloc, file, words, text),
+pub fn answer_of_changes(file: &[u8], line: &mut Line<'_>) -> bool {
+    let counted = match line.name {
+        "file-cuts" => count_truncated(line.alloc, file, false),
+        "wide-cuts" => count_truncated(line.alloc, file, true),
+        "file-bytes" => count_changed(file, line),
         _ => return false,
     };
-    add_size(counted.unwrap_or(0), got);
-    words.check(counted.and(Ok(())));
+    add_count(counted.unwrap_or(0) as u64, &mut line.got);
+    line.words.check(counted.and(Ok(())));
     true
 }
 
@@ -163,25 +140,21 @@ fn count_truncated(alloc: Global, file: &[u8], is_wide: bool) -> Result<usize, T
 }
 
 // Sets each byte of a file in turn to each of those of a line, and counts the files that are sound.
-fn count_changed(
-    alloc: Global,
-    file: &[u8],
-    words: &mut Words<'_>,
-    text: &mut Buffer,
-) -> Result<usize, Trouble> {
+fn count_changed(file: &[u8], line: &mut Line<'_>) -> Result<usize, Trouble> {
+    let mut text = Buffer::new(line.alloc);
     let mut count = 0usize;
     for _ in 0..u32::MAX {
-        if words.is_at_end() {
+        if line.words.is_at_end() {
             break;
         }
-        let byte = words.byte();
+        let byte = line.words.byte();
         for index in 0..file.len() {
             text.clear();
             text.extend(file.get(..index).unwrap_or(b""));
             text.push(byte);
             text.extend(file.get(index.saturating_add(1)..).unwrap_or(b""));
             text.done()?;
-            count = count.saturating_add(usize::from(is_sound(alloc, text.bytes())?));
+            count = count.saturating_add(usize::from(is_sound(line.alloc, text.bytes())?));
         }
     }
     Ok(count)

@@ -1,12 +1,10 @@
 //! Lines about reading an input, of readers that fail.
 
-use crate::answers::{add_made, add_size};
-use check_harness::answers::{add_text, add_word};
-use check_harness::buffers::Buffer;
+use crate::answers::add_made;
+use check_harness::answers::{add_count, add_text, add_word};
 use check_harness::troubles::Trouble;
-use check_harness::words::Words;
+use check_harness::words::{Line, Words};
 use program_input::read_input;
-use std::alloc::Global;
 use std::io;
 use std::io::{ErrorKind, Read};
 
@@ -36,21 +34,15 @@ impl Read for Pieces {
 }
 
 /// The lines `input COUNT EACH [BEFORE FAULT]` and `input-of TEXT`. Tells whether a line is one of them.
-pub fn answer_of_input(
-    alloc: Global,
-    word: &str,
-    words: &mut Words<'_>,
-    text: &mut Buffer,
-    got: &mut Buffer,
-) -> bool {
-    match word {
-        "input" => read_pieces(alloc, words, got),
+pub fn answer_of_input(line: &mut Line<'_>) -> bool {
+    match line.name {
+        "input" => read_pieces(line),
         "input-of" => {
-            words.text(text);
+            let text = line.text();
             let mut reader = text.bytes();
             add_made(
-                read_input(alloc, &mut reader),
-                got,
+                read_input(line.alloc, &mut reader),
+                &mut line.got,
                 |bytes, got| add_text(bytes, got),
             );
         }
@@ -59,20 +51,21 @@ pub fn answer_of_input(
     true
 }
 
-fn read_pieces(alloc: Global, words: &mut Words<'_>, got: &mut Buffer) {
+fn read_pieces(line: &mut Line<'_>) {
+    let words = &mut line.words;
     let mut pieces = Pieces {
         left: words.number() as usize,
         each: words.number() as usize,
         fault: read_fault(words),
     };
-    let read = read_input(alloc, &mut pieces);
-    add_made(read, got, |bytes, got| {
+    let read = read_input(line.alloc, &mut pieces);
+    add_made(read, &mut line.got, |bytes, got| {
         for byte in bytes {
             if *byte != b'x' {
                 add_word("another", got);
             }
         }
-        add_size(bytes.len(), got);
+        add_count(bytes.len() as u64, got);
     });
 }
 

@@ -1,34 +1,28 @@
 //! Lines about parameter strings.
 
-use crate::answers::{add_made, add_refusal, add_size};
-use check_harness::answers::{add_text, add_word};
+use crate::answers::{add_made, add_refusal};
+use check_harness::answers::{add_count, add_text, add_word};
 use check_harness::buffers::Buffer;
-use check_harness::words::Words;
-use std::alloc::Global;
+use check_harness::words::Line;
 use ti_param::{Program, RunFault, Vars, strip_padding};
 
 /// The lines `padding TEXT`, `read-program TEXT` and `measure TEXT`, which leave all as it is. Tells whether a line is
 /// one of them.
-pub fn answer_of_programs(
-    alloc: Global,
-    word: &str,
-    words: &mut Words<'_>,
-    text: &mut Buffer,
-    got: &mut Buffer,
-) -> bool {
-    if !matches!(word, "padding" | "read-program" | "measure") {
+pub fn answer_of_programs(line: &mut Line<'_>) -> bool {
+    if !matches!(line.name, "padding" | "read-program" | "measure") {
         return false;
     }
-    words.text(text);
-    if word == "padding" {
+    let text = line.text();
+    let (alloc, name, got) = (line.alloc, line.name, &mut line.got);
+    if name == "padding" {
         let stripped = strip_padding(alloc, text.bytes());
         add_made(stripped, got, |stripped, got| add_text(stripped, got));
         return true;
     }
     add_made(Program::read(alloc, text.bytes()), got, |program, got| {
-        if word == "measure" {
-            add_size(program.bound(), got);
-            add_size(program.depth(), got);
+        if name == "measure" {
+            add_count(program.bound() as u64, got);
+            add_count(program.depth() as u64, got);
         } else {
             add_word("Ok", got);
         }
@@ -37,14 +31,9 @@ pub fn answer_of_programs(
 }
 
 /// The line `program TEXT PARAMETER..`.
-pub fn run(
-    alloc: Global,
-    vars: &mut Vars,
-    words: &mut Words<'_>,
-    text: &mut Buffer,
-    got: &mut Buffer,
-) {
-    words.text(text);
+pub fn run(vars: &mut Vars, line: &mut Line<'_>) {
+    let mut text = line.text();
+    let (alloc, words, got) = (line.alloc, &mut line.words, &mut line.got);
     let mut params = [0; 9];
     for param in params.iter_mut() {
         if !words.is_at_end() {
@@ -55,7 +44,7 @@ pub fn run(
     add_made(
         read,
         got,
-        |program, got| add_written(program, params, vars, text, got),
+        |program, got| add_written(program, params, vars, &mut text, got),
     );
 }
 

@@ -1,13 +1,13 @@
 //! Lines about sources.
 
 use crate::answers::{
-    add_entry, add_entry_if_any, add_made, add_note, add_notes, add_size, is_taken_back, keep,
+    add_entry, add_entry_if_any, add_made, add_note, add_notes, is_taken_back, keep,
 };
-use check_harness::answers::{add_any, add_number, add_text, add_word};
+use check_harness::answers::{add_any, add_count, add_number, add_text, add_word};
 use check_harness::buffers::{Buffer, are_same};
 use check_harness::checking::put;
 use check_harness::troubles::Trouble;
-use check_harness::words::Words;
+use check_harness::words::{Line, Words};
 use std::alloc::Global;
 use std::io::Write;
 use ti_caps::{Entry, Slot};
@@ -16,31 +16,25 @@ use ti_source::{Resolver, Source, SourceFault};
 
 /// The lines `source TEXT`, `chained COUNT USES LAST` and `source-cuts TEXT`, and those about the source that there is.
 /// Tells whether a line is one of them.
-pub fn answer_of_source(
-    alloc: Global,
-    source: &mut Option<Source>,
-    word: &str,
-    words: &mut Words<'_>,
-    text: &mut Buffer,
-    got: &mut Buffer,
-) -> bool {
-    match word {
+pub fn answer_of_source(source: &mut Option<Source>, line: &mut Line<'_>) -> bool {
+    match line.name {
         "source" => {
-            words.text(text);
-            read_source(alloc, source, words, text, got);
+            let text = line.text();
+            read_source(source, &text, line);
         }
         "chained" => {
-            write_chain(alloc, words, text);
-            read_source(alloc, source, words, text, got);
+            let text = chain(line);
+            read_source(source, &text, line);
         }
         "source-cuts" => {
-            words.text(text);
-            words.check(add_beginnings(alloc, text.bytes(), got));
+            let text = line.text();
+            let added = add_beginnings(line.alloc, text.bytes(), &mut line.got);
+            line.words.check(added);
         }
-        "take-notes" => take_notes(source, words, got),
+        "take-notes" => take_notes(source, line),
         "listed" | "notes" | "resolver" | "compiler" => match source {
-            Some(source) => show(alloc, source, word, words, text, got),
-            None => words.fail(Trouble::Bad("no source")),
+            Some(source) => show(source, line),
+            None => line.words.fail(Trouble::Bad("no source")),
         },
         _ => return false,
     }
@@ -49,23 +43,23 @@ pub fn answer_of_source(
 
 // Reads `COUNT USES LAST` and writes a source of COUNT entries, `e0`, `e1` and so on, each of which uses the next one
 // USES times; the last has the field LAST.
-fn write_chain(alloc: Global, words: &mut Words<'_>, text: &mut Buffer) {
-    let (count, uses) = (words.number(), words.number());
-    let mut last = Buffer::new(alloc);
-    words.text(&mut last);
-    text.clear();
+fn chain(line: &mut Line<'_>) -> Buffer {
+    let (count, uses) = (line.words.number(), line.words.number());
+    let last = line.text();
+    let mut text = Buffer::new(line.alloc);
     for index in 0..count {
         let written = write!(text.vector(), "e{index},\n\t");
         text.check(written.is_ok());
         let next = index.saturating_add(1);
         if next < count {
-            write_uses(next, uses, text);
+            write_uses(next, uses, &mut text);
         } else {
             text.extend(last.bytes());
             text.extend(b",");
         }
         text.push(b'\n');
     }
+    text
 }
 
 // Writes fields that use an entry of a chain.
@@ -76,15 +70,10 @@ fn write_uses(index: u32, uses: u32, text: &mut Buffer) {
     }
 }
 
-fn read_source(
-    alloc: Global,
-    source: &mut Option<Source>,
-    words: &mut Words<'_>,
-    text: &Buffer,
-    got: &mut Buffer,
-) {
+fn read_source(source: &mut Option<Source>, text: &Buffer, line: &mut Line<'_>) {
+    let (words, got) = (&mut line.words, &mut line.got);
     words.check(text.done());
-    if keep(ti_source::read(alloc, text.bytes()), source, got) {
+    if keep(ti_source::read(line.alloc, text.bytes()), source, got) {
         add_length(source, words, got);
     }
 }
@@ -95,7 +84,7 @@ fn add_length(source: &Option<Source>, words: &mut Words<'_>, got: &mut Buffer) 
         if source.is_empty() != (source.len() == 0) {
             words.fail(Trouble::Bad("is_empty and len differ"));
         }
-        add_size(source.len(), got);
+        add_count(source.len() as u64, got);
     }
 }
 
@@ -109,13 +98,13 @@ fn add_beginnings(alloc: Global, text: &[u8], got: &mut Buffer) -> Result<(), Tr
         add_made(
             source,
             &mut read,
-            |source, read| add_size(source.len(), read),
+            |source, read| add_count(source.len() as u64, read),
         );
         if read.bytes().ends_with(b" NoMemory") {
             return Err(Trouble::NoMemory);
         }
         if !are_same(&read, &before)? {
-            add_size(length, got);
+            add_count(length as u64, got);
             got.extend(read.bytes());
             put(&mut before, read);
         }
@@ -123,27 +112,20 @@ fn add_beginnings(alloc: Global, text: &[u8], got: &mut Buffer) -> Result<(), Tr
     Ok(())
 }
 
-fn take_notes(source: &mut Option<Source>, words: &mut Words<'_>, got: &mut Buffer) {
+fn take_notes(source: &mut Option<Source>, line: &mut Line<'_>) {
     match source.take() {
-        Some(source) => add_notes(&source.into_notes(), got),
-        None => words.fail(Trouble::Bad("no source")),
+        Some(source) => add_notes(&source.into_notes(), &mut line.got),
+        None => line.words.fail(Trouble::Bad("no source")),
     }
 }
 
 // The lines `listed`, `notes`, `resolver NAME..` and `compiler STEP..`.
-fn show(
-    alloc: Global,
-    source: &Source,
-    word: &str,
-    words: &mut Words<'_>,
-    text: &mut Buffer,
-    got: &mut Buffer,
-) {
-    match word {
-        "listed" => add_list(source, got),
-        "notes" => add_notes(source.notes(), got),
-        "resolver" => resolve_all(alloc, source, words, text, got),
-        _ => compile_all(alloc, source, words, got),
+fn show(source: &Source, line: &mut Line<'_>) {
+    match line.name {
+        "listed" => add_list(source, &mut line.got),
+        "notes" => add_notes(source.notes(), &mut line.got),
+        "resolver" => resolve_all(source, line),
+        _ => compile_all(source, line),
     }
 }
 
@@ -155,20 +137,14 @@ pub fn add_list(source: &Source, got: &mut Buffer) {
 }
 
 // Resolves all names by one resolver.
-fn resolve_all(
-    alloc: Global,
-    source: &Source,
-    words: &mut Words<'_>,
-    text: &mut Buffer,
-    got: &mut Buffer,
-) {
+fn resolve_all(source: &Source, line: &mut Line<'_>) {
     let mut resolver = Resolver::new(source);
     for _ in 0..u32::MAX {
-        if words.is_at_end() {
+        if line.words.is_at_end() {
             break;
         }
-        words.text(text);
-        resolve_next(alloc, &mut resolver, text.bytes(), got);
+        let text = line.text();
+        resolve_next(line.alloc, &mut resolver, text.bytes(), &mut line.got);
     }
 }
 
@@ -182,36 +158,29 @@ fn resolve_next(alloc: Global, resolver: &mut Resolver<'_>, name: &[u8], got: &m
 }
 
 /// The line `resolve NAME`; what it resolves to is the entry then.
-pub fn resolve(
-    alloc: Global,
-    source: &Option<Source>,
-    entry: &mut Option<Entry>,
-    words: &mut Words<'_>,
-    text: &mut Buffer,
-    got: &mut Buffer,
-) {
-    words.text(text);
-    match source {
-        Some(source) => {
-            if keep(ti_source::resolve(alloc, source, text.bytes()), entry, got) {
-                add_entry_if_any(entry, got);
-            }
-        }
-        None => words.fail(Trouble::Bad("no source")),
+pub fn resolve(source: &Option<Source>, entry: &mut Option<Entry>, line: &mut Line<'_>) {
+    let text = line.text();
+    let Some(source) = source else {
+        line.words.fail(Trouble::Bad("no source"));
+        return;
+    };
+    let resolved = ti_source::resolve(line.alloc, source, text.bytes());
+    if keep(resolved, entry, &mut line.got) {
+        add_entry_if_any(entry, &mut line.got);
     }
 }
 
 // Compiles entries one after another by one compiler.
-fn compile_all(alloc: Global, source: &Source, words: &mut Words<'_>, got: &mut Buffer) {
+fn compile_all(source: &Source, line: &mut Line<'_>) {
     let mut compiler = EntryCompiler::new(source);
     for _ in 0..u32::MAX {
-        if words.is_at_end() {
+        if line.words.is_at_end() {
             break;
         }
-        match words.name() {
-            "next" => compile_next(alloc, &mut compiler, got),
+        match line.words.name() {
+            "next" => compile_next(line.alloc, &mut compiler, &mut line.got),
             "restart" => compiler.restart(),
-            _ => words.fail(Trouble::Bad("no such step")),
+            _ => line.words.fail(Trouble::Bad("no such step")),
         }
     }
 }
@@ -241,19 +210,14 @@ fn add_next(compiled: &Option<CompiledEntry>, got: &mut Buffer) {
 
 /// The lines `string TEXT`, `decimal TEXT` and `compile SOURCE`, which leave all as it is. Tells whether a line is one
 /// of them.
-pub fn answer_of_meaning(
-    alloc: Global,
-    word: &str,
-    words: &mut Words<'_>,
-    text: &mut Buffer,
-    got: &mut Buffer,
-) -> bool {
-    match word {
-        "string" => mean(alloc, [b"t,\n\tcr=", b""], words, text, got),
-        "decimal" => mean(alloc, [b"t,\n\tcols#", b","], words, text, got),
+pub fn answer_of_meaning(line: &mut Line<'_>) -> bool {
+    match line.name {
+        "string" => mean([b"t,\n\tcr=", b""], line),
+        "decimal" => mean([b"t,\n\tcols#", b","], line),
         "compile" => {
-            words.text(text);
-            add_made(ti_compile::compile(alloc, text.bytes()), got, add_compiled);
+            let text = line.text();
+            let compiled = ti_compile::compile(line.alloc, text.bytes());
+            add_made(compiled, &mut line.got, add_compiled);
         }
         _ => return false,
     }
@@ -261,20 +225,15 @@ pub fn answer_of_meaning(
 }
 
 // What a text means between two parts of a source: the text or the number that its entry `t` has then.
-fn mean(
-    alloc: Global,
-    parts: [&[u8]; 2],
-    words: &mut Words<'_>,
-    text: &mut Buffer,
-    got: &mut Buffer,
-) {
-    let mut source = Buffer::new(alloc);
-    words.text(text);
+fn mean(parts: [&[u8]; 2], line: &mut Line<'_>) {
+    let text = line.text();
+    let mut source = Buffer::new(line.alloc);
     source.extend(parts[0]);
     source.extend(text.bytes());
     source.extend(parts[1]);
-    words.check(source.done());
-    add_made(entry_in(alloc, source.bytes()), got, |entry, got| {
+    line.words.check(source.done());
+    let made = entry_in(line.alloc, source.bytes());
+    add_made(made, &mut line.got, |entry, got| {
         match entry.number(Slot(0)) {
             Some(number) => add_number(i64::from(number), got),
             None => add_any(entry.text(Slot(2)), got, add_text),
@@ -297,7 +256,7 @@ fn add_compiled(compiled: &Compiled, got: &mut Buffer) {
     for (name, size) in &compiled.sizes.0 {
         add_word("size", got);
         add_text(&name.0, got);
-        add_size(*size, got);
+        add_count(*size as u64, got);
     }
     for note in &compiled.notes.0 {
         add_word("note", got);

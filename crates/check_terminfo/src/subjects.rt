@@ -71,7 +71,7 @@ use check_harness::answers::{add_name, add_text, add_word};
 use check_harness::buffers::Buffer;
 use check_harness::checking::Subject;
 use check_harness::troubles::Trouble;
-use check_harness::words::Words;
+use check_harness::words::{Line, Words};
 use std::alloc::Global;
 use ti_caps::Entry;
 use ti_database::MemoryFiles;
@@ -92,8 +92,6 @@ pub struct TerminfoSubject {
     store: MemoryFiles,
     // The static variables of programs.
     vars: Vars,
-    // Room for the text of a line.
-    text: Buffer,
 }
 
 impl Subject for TerminfoSubject {
@@ -105,20 +103,19 @@ impl Subject for TerminfoSubject {
             file: Vec::new(alloc),
             store: MemoryFiles(Vec::new(alloc)),
             vars: Vars::new(),
-            text: Buffer::new(alloc),
         }
     }
 
     fn answer(&mut self, words: &mut Words<'_>, got: &mut Buffer) {
-        let word = words.name();
-        if !self.is_answered(word, words, got)
-            && !answer_of_values(self.alloc, word, words, &mut self.text, got)
-        {
-            words.fail(Trouble::Bad("no such line"));
+        let mut line = Line::new(self.alloc, *words, got.take(self.alloc));
+        if !self.is_answered(&mut line) && !answer_of_values(&mut line) {
+            line.words.fail(Trouble::Bad("no such line"));
         }
-        if got.bytes().is_empty() {
-            add_word("none", got);
+        if line.got.bytes().is_empty() {
+            add_word("none", &mut line.got);
         }
+        *words = line.words;
+        *got = line.got;
     }
 
     fn dump(&self, bytes: &mut Buffer) {
@@ -138,48 +135,38 @@ impl Subject for TerminfoSubject {
 
 impl TerminfoSubject {
     // Makes the call of a line that goes on with what is there. Tells whether a line is one of them.
-    fn is_answered(&mut self, word: &str, words: &mut Words<'_>, got: &mut Buffer) -> bool {
-        let (alloc, text) = (self.alloc, &mut self.text);
-        match word {
-            "resolve" => resolve(alloc, &self.source, &mut self.entry, words, text, got),
-            "file" => take_file(alloc, &mut self.file, words, got),
-            "decode" | "changed" => {
-                decode_changed(alloc, &self.file, &mut self.entry, words, text, got);
-            }
-            "store" => store(alloc, &mut self.store, words, got),
-            "program" => run(alloc, &mut self.vars, words, text, got),
+    fn is_answered(&mut self, line: &mut Line<'_>) -> bool {
+        match line.name {
+            "resolve" => resolve(&self.source, &mut self.entry, line),
+            "file" => take_file(&mut self.file, line),
+            "decode" | "changed" => decode_changed(&self.file, &mut self.entry, line),
+            "store" => store(&mut self.store, line),
+            "program" => run(&mut self.vars, line),
             "vars" => {
                 self.vars = Vars::new();
-                add_word("Ok", got);
+                add_word("Ok", &mut line.got);
             }
-            _ => return self.is_answered_of_one(word, words, got),
+            _ => return self.is_answered_of_one(line),
         }
         true
     }
 
     // Makes the call of a line about the entry, the source, the file or the files in which names are looked up.
-    fn is_answered_of_one(&mut self, word: &str, words: &mut Words<'_>, got: &mut Buffer) -> bool {
-        let (alloc, text) = (self.alloc, &mut self.text);
-        answer_of_entry(alloc, &mut self.entry, word, words, text, got)
-            || answer_of_source(alloc, &mut self.source, word, words, text, got)
-            || answer_of_writing(alloc, &self.entry, &mut self.file, word, words, text, got)
-            || answer_of_file(alloc, &self.file, word, got)
-            || answer_of_changes(alloc, &self.file, word, words, text, got)
-            || answer_of_whole(alloc, &mut self.file, word, words, text, got)
-            || answer_of_database(alloc, &self.store, word, words, text, got)
+    fn is_answered_of_one(&mut self, line: &mut Line<'_>) -> bool {
+        answer_of_entry(&mut self.entry, line)
+            || answer_of_source(&mut self.source, line)
+            || answer_of_writing(&self.entry, &mut self.file, line)
+            || answer_of_file(&self.file, line)
+            || answer_of_changes(&self.file, line)
+            || answer_of_whole(&mut self.file, line)
+            || answer_of_database(&self.store, line)
     }
 }
 
 // Makes the call of a line that leaves all as it is. Tells whether a line is one of them.
-fn answer_of_values(
-    alloc: Global,
-    word: &str,
-    words: &mut Words<'_>,
-    text: &mut Buffer,
-    got: &mut Buffer,
-) -> bool {
-    answer_of_table(word, words, text, got)
-        || answer_of_meaning(alloc, word, words, text, got)
-        || answer_of_programs(alloc, word, words, text, got)
-        || answer_of_input(alloc, word, words, text, got)
+fn answer_of_values(line: &mut Line<'_>) -> bool {
+    answer_of_table(line)
+        || answer_of_meaning(line)
+        || answer_of_programs(line)
+        || answer_of_input(line)
 }

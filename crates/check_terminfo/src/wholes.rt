@@ -1,10 +1,10 @@
 //! Lines about whole entries: those with all names of term.h, numbers up to 2,147,483,647 and extended capabilities.
 
-use crate::answers::{add_entry, add_made, add_refusal, add_size};
-use check_harness::answers::{add_flag, add_name, add_number, add_text, add_word};
+use crate::answers::{add_entry, add_made, add_refusal};
+use check_harness::answers::{add_count, add_flag, add_name, add_number, add_text, add_word};
 use check_harness::buffers::Buffer;
 use check_harness::checking::put;
-use check_harness::words::Words;
+use check_harness::words::Line;
 use std::alloc::Global;
 use ti_caps::Bytes;
 use ti_compile::TicFault;
@@ -16,24 +16,18 @@ use ti_source::{Notes, Source, SourceFault, read_apart, resolve};
 
 /// The lines `whole SOURCE`, `decode-whole`, `encode-whole`, `print-whole` and `is-extended-name TEXT`. Tells whether a
 /// line is one of them.
-pub fn answer_of_whole(
-    alloc: Global,
-    file: &mut Vec<u8>,
-    word: &str,
-    words: &mut Words<'_>,
-    text: &mut Buffer,
-    got: &mut Buffer,
-) -> bool {
-    match word {
-        "whole" => {
-            words.text(text);
-            words.check(text.done());
-            compile(alloc, text.bytes(), file, got);
+pub fn answer_of_whole(file: &mut Vec<u8>, line: &mut Line<'_>) -> bool {
+    if matches!(line.name, "whole" | "is-extended-name") {
+        let text = line.text();
+        if line.name == "whole" {
+            compile(line.alloc, text.bytes(), file, &mut line.got);
+        } else {
+            add_flag(is_extended_name(text.bytes()), &mut line.got);
         }
-        "is-extended-name" => {
-            words.text(text);
-            add_flag(is_extended_name(text.bytes()), got);
-        }
+        return true;
+    }
+    let (alloc, got) = (line.alloc, &mut line.got);
+    match line.name {
         "decode-whole" => add_made(decode_whole(alloc, file.as_slice()), got, add_whole),
         "encode-whole" => add_made(decode_whole(alloc, file.as_slice()), got, |whole, got| {
             add_made(encode_whole(alloc, whole), got, |bytes, got| {
@@ -42,7 +36,7 @@ pub fn answer_of_whole(
         }),
         "print-whole" => add_made(printed(alloc, file.as_slice()), got, |printed, got| {
             add_text(&printed.text.0, got);
-            add_size(printed.unnamed, got);
+            add_count(printed.unnamed as u64, got);
         }),
         _ => return false,
     }
@@ -127,7 +121,7 @@ fn add_whole(whole: &WholeEntry, got: &mut Buffer) {
             && *number > 32_767
         {
             add_word("great", got);
-            add_size(position, got);
+            add_count(position as u64, got);
             add_number(i64::from(*number), got);
         }
     }

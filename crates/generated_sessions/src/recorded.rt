@@ -268,8 +268,7 @@ impl Recorded {
             Allowed::Owed => return Ok(None),
             Allowed::Anew => scratch_on(self.alloc, profile, picture)?,
             Allowed::Differing => {
-                let mut terminal = self.emulated.terminal.try_clone(self.alloc)?;
-                joined_on(self.alloc, profile, &mut terminal, picture)?
+                joined_on(self.alloc, profile, &self.emulated.terminal, picture)?
             }
         };
         Ok(Some(bytes_of(profile, &ops.0)))

@@ -1,9 +1,9 @@
 //! What brings a terminal to a picture, and how many bytes that has: as many as an update may send.
 
 use check_harness::troubles::Trouble;
-use joined_repaint::joined;
 use scr_cells::Picture;
-use scr_plan::scratch;
+use scr_memory::Memory;
+use scr_plan::{joined, scratch};
 use scr_term::{Op, Ops, Profile};
 use scr_terminal::Terminal;
 use std::alloc::Global;
@@ -17,21 +17,23 @@ pub fn scratch_on(alloc: Global, profile: &Profile, picture: &Picture) -> Result
     Ok(scratch(alloc, profile, picture)?)
 }
 
-/// The joined repaint from what a terminal shows to a picture, which the terminal executes.
+/// The joined repaint from what a terminal shows to a picture.
 pub fn joined_on(
     alloc: Global,
     profile: &Profile,
-    terminal: &mut Terminal,
+    terminal: &Terminal,
     picture: &Picture,
 ) -> Result<Ops, Trouble> {
-    let (size, other, own) = (picture.size(), profile.size(), terminal.size());
+    let memory = Memory::of(alloc, terminal.try_clone(alloc)?)?;
+    let (size, other, own) = (picture.size(), profile.size(), memory.size());
     if size.rows != other.rows || size.columns != other.columns {
         return Err(Trouble::Bad("the profile has another size"));
     }
     if size.rows != own.rows || size.columns != own.columns {
         return Err(Trouble::Bad("the terminal has another size"));
     }
-    Ok(joined(alloc, profile, terminal, picture)?)
+    let found = joined(alloc, profile, &memory, picture)?;
+    found.ok_or(Trouble::Bad("the profile has not the pen of the terminal"))
 }
 
 /// How many bytes operations have.

@@ -4,7 +4,7 @@ ghost use Rattle.std.specs.Option.{is_some};
 ghost use Rattle.scr_term.specs.Operations.Profiles.{abilities};
 ghost use Rattle.scr_term.specs.Operations.States.{IsSpot};
 ghost use Rattle.scr_term.specs.Operations.Steps.{step};
-ghost use Rattle.scr_memory.specs.Memories.{IsMemory, all_followed, changes_cells, clears, disturbed, followed, forgotten, has_one_pen, is_known, is_known_row, is_placed, known_from, loses_rows, made_plain, moves_rows, pen_if_known, places_spot, row_looks, rows_erased, rows_followed, sets_pen, spot_if_known, stepped, unknown};
+ghost use Rattle.scr_memory.specs.Memories.{IsMemory, all_followed, changes_cells, clears, disturbed, followed, forgotten, has_one_pen, is_known, is_known_row, is_placed, known_from, loses_rows, made_plain, moves_rows, pen_if_known, places_spot, remembered, row_looks, rows_erased, rows_followed, sets_pen, spot_if_known, stepped, unknown};
 ghost use Rattle.scr_cells.specs.Grids.{grid_row};
 ghost use Rattle.scr_memory.specs.Code.Remembering.{gone_to};
 
@@ -19,7 +19,7 @@ use std::marker::Model;
 /// may be in, and how much of it is known. Each row can be known, and so can the cursor's place and the pen, which is
 /// the attributes and colours that it writes with.
 ///
-/// Only `unknown` allocates. If all is known, following an operation takes time in proportion to the cells that it
+/// Only `unknown` and `of` allocate. If all is known, following an operation takes time in proportion to the cells that it
 /// changes.
 #[derive(Drop)]
 pub struct Memory {
@@ -58,6 +58,22 @@ impl Memory {
             all_rows: false,
             spot: false,
             pen: false,
+        })
+    }
+
+    /// Memory of a terminal of which all is known: it shows what this one shows. Fails only when memory runs out.
+    pub fn of(alloc: Global, terminal: Terminal) -> Result<Memory, NoMemory>
+        ensures { IfOk result (λ memory. memory ≡ remembered terminal.rows terminal.columns terminal.state) }
+    {
+        let size = terminal.size();
+        let mut rows = Vec::with_capacity(alloc, size.rows as usize)?;
+        rows.resize(size.rows as usize, true)?;
+        Ok(Memory {
+            terminal,
+            rows,
+            all_rows: true,
+            spot: true,
+            pen: true,
         })
     }
 

@@ -149,6 +149,33 @@ change_is ranges profile memory virtual same painter who r from last start looks
     by c (inr over) wide = shown c wide (outside_above from last c (omega (arith, over)))
     by c (inl under) wide = before_or_not c from (d c ≡ false) (λ below. shown c wide (outside_below from last c below)) (λ over. here c ∙ before c over under)
 
+-- the same where all columns are looked at
+pub whole_change_is : (profile : ProfileView) (picture : PictureView) (memory : MemoryView) (painter : Painter) → painter ≡ painter_of profile
+    → (r start : ℕ) (looks : List LookView) → r < picture.rows → is_known_row memory r ≡ true → looks ≡ grid_row memory.state.grid r → start < picture.columns
+    → ((c : ℕ) → 0 ≤ c → c < start → row_differs painter picture (Some looks) (r, c) ≡ false) → row_differs painter picture (Some looks) (r, start) ≡ true
+    → IsChange profile picture memory (record { row = r; start = start; end = picture.columns })
+whole_change_is profile picture memory painter who r start looks high known are some before first = record {
+  row = high;
+  some = some;
+  inside = omega arith;
+  first = here start ∙ first;
+  outside = by;
+}
+  where
+    here : (c : ℕ) → differs profile picture memory (r, c) ≡ row_differs painter picture (Some looks) (r, c)
+    here c = sym (ap (λ p. row_differs p picture (Some looks) (r, c)) who ∙ differs_same profile picture memory r (Some looks) (known_row memory r looks known are) c)
+
+    by : (c : ℕ) → (c < start) ⊎ (picture.columns ≤ c) → c < picture.columns → differs profile picture memory (r, c) ≡ false
+    by c (inr over) wide = absurd (omega (arith, over, wide))
+    by c (inl under) wide = here c ∙ before c (omega arith) under
+
+-- a row that shows in all its columns what is seen there
+pub whole_row_is : (profile : ProfileView) (picture : PictureView) (memory : MemoryView) (painter : Painter) → painter ≡ painter_of profile
+    → (r : ℕ) (looks : List LookView) → is_known_row memory r ≡ true → looks ≡ grid_row memory.state.grid r
+    → ((c : ℕ) → c < picture.columns → row_differs painter picture (Some looks) (r, c) ≡ false) → IsSameRow profile picture memory r
+whole_row_is profile picture memory painter who r looks known are same c wide =
+    sym (ap (λ p. row_differs p picture (Some looks) (r, c)) who ∙ differs_same profile picture memory r (Some looks) (known_row memory r looks known are) c) ∙ same c wide
+
 -- ---- going through them
 
 -- a row that does not differ has no runs

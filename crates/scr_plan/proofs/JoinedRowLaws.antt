@@ -126,8 +126,8 @@ row_with_rest profile picture row before painter who from e left order wide outs
 
 -- ---- rows of what is remembered
 
-pub shows_row : (profile : ProfileView) (memory : MemoryView) (virtual : VirtualView) → IsSizeOf virtual.picture memory → is_known memory ≡ true → (r : ℕ) (looks : List LookView) → r < virtual.picture.rows → looks ≡ grid_row memory.state.grid r → ShowsRow memory r (Some looks)
-shows_row profile memory virtual size known r looks high are = known_row memory r looks (row_known memory known r (omega (arith, high, size.known_rows))) are
+pub shows_row : (memory : MemoryView) (picture : PictureView) → IsSizeOf picture memory → is_known memory ≡ true → (r : ℕ) (looks : List LookView) → r < picture.rows → looks ≡ grid_row memory.state.grid r → ShowsRow memory r (Some looks)
+shows_row memory picture size known r looks high are = known_row memory r looks (row_known memory known r (omega (arith, high, size.known_rows))) are
 
 -- ---- all rows
 

@@ -1,23 +1,28 @@
 //! The joined repaint of what differs from what is remembered, and of what differs from a blank
 //! screen.
-ghost use Rattle.std.specs.Prelude.{◌≡◌, ◌≢◌, ◌≤◌, ◌⊎◌, ◌&&◌, ◌++◌, None, IfOk, OnOk, false, filter, length, true};
+ghost use Rattle.std.specs.Prelude.{◌≡◌, ◌≢◌, ◌≤◌, ◌⊎◌, ◌&&◌, ◌++◌, None, IfOk, IfSome, OnOk, false, filter, length, true};
 ghost use Rattle.std.specs.List.{flat_map};
 ghost use Rattle.scr_cells.specs.PenViews.{is_plain_pen};
 ghost use Rattle.scr_term.specs.declared.operations.capability.Capability.TheVariants.{Sgr0};
-ghost use Rattle.scr_term.specs.Operations.Profiles.{is_there};
+ghost use Rattle.scr_term.specs.Operations.Profiles.{abilities, is_there};
+ghost use Rattle.scr_term.specs.Operations.States.{IsShownPen};
 ghost use Rattle.scr_term.specs.Operations.Texts.{all_bytes};
 ghost use Rattle.scr_plan.specs.Code.Joinings.{Continues, CountsAtMost, counted_up, joined_at};
 ghost use Rattle.scr_plan.specs.Code.Planning.{AreChanges, IsChange, painted_anew};
 ghost use Rattle.scr_plan.specs.Code.Scenes.{IsScene, IsUpdate};
-ghost use Rattle.scr_plan.specs.Repaints.{anew_of, cleared, differing, differs, is_none_left, joined_of, joined_places};
-ghost use Rattle.scr_plan.specs.Scratch.{places_cursor, resets, row_places};
+ghost use Rattle.scr_plan.specs.Repaints.{IsSizeOf, anew_of, cleared, differing, differs, is_none_left, joined_of, joined_places};
+ghost use Rattle.scr_plan.specs.Scratch.{Fits, places_cursor, resets, row_places};
 ghost use Rattle.scr_memory.specs.Memories.{is_known, is_placed};
 
+use crate::looked::Changes;
+use crate::painting::Painter;
+use crate::plans::may_be;
 use crate::scenes::{Scene, Update};
 use crate::strokes::Draft;
-use scr_cells::{NoMemory, Size};
+use scr_cells::{NoMemory, Picture, Size};
+use scr_memory::Memory;
 use scr_prices::RowChange;
-use scr_term::{Op, Ops, run_laws};
+use scr_term::{Op, Ops, Profile, profiles_have, run_laws};
 use std::alloc::Global;
 
 impl Draft {
@@ -25,25 +30,27 @@ impl Draft {
     // cursor. It stops early once there are more bytes than the limit, if there is one.
     pub(crate) fn join_changes(
         &mut self,
-        update: &Update<'_>,
+        scene: &Scene<'_>,
+        memory: &Memory,
         changes: &[RowChange],
         limit: Option<usize>,
     ) -> Result<(), NoMemory>
-        requires update { IsUpdate update.now }
-        requires known { is_known update.now.memory.now ≡ true }
-        requires changes { AreChanges update.now.scene.profile.now update.now.wanted.now.picture update.now.memory.now changes.now update.now.wanted.now.picture.rows }
-        ensures all { OnOk result (limit ≡ None → Continues update.now.scene.profile.now self.old self.new (joined_places update.now.scene.profile.now update.now.wanted.now.picture update.now.memory.now ++ resets update.now.scene.profile.now ++ places_cursor update.now.wanted.now.picture.wish)) }
-        ensures most { OnOk result (CountsAtMost update.now.scene.profile.now self.old self.new (joined_places update.now.scene.profile.now update.now.wanted.now.picture update.now.memory.now ++ resets update.now.scene.profile.now ++ places_cursor update.now.wanted.now.picture.wish)) }
+        requires scene { IsScene scene.now }
+        requires size { IsSizeOf scene.now.picture.now memory.now }
+        requires known { is_known memory.now ≡ true }
+        requires changes { AreChanges scene.now.profile.now scene.now.picture.now memory.now changes.now scene.now.picture.now.rows }
+        ensures all { OnOk result (limit ≡ None → Continues scene.now.profile.now self.old self.new (joined_places scene.now.profile.now scene.now.picture.now memory.now ++ resets scene.now.profile.now ++ places_cursor scene.now.picture.now.wish)) }
+        ensures most { OnOk result (CountsAtMost scene.now.profile.now self.old self.new (joined_places scene.now.profile.now scene.now.picture.now memory.now ++ resets scene.now.profile.now ++ places_cursor scene.now.picture.now.wish)) }
     {
         run_laws();
-        let _size = update.wanted.size();
+        let _size = scene.picture.size();
         for change in changes {
             if self.is_above(limit) {
                 return Ok(());
             }
-            self.join_change(update, change)?;
+            self.join_change(scene, memory, change)?;
         }
-        self.finish(&update.scene)
+        self.finish(scene)
     }
 
     // Whether there are more bytes than a limit, if there is one.
@@ -57,15 +64,21 @@ impl Draft {
     }
 
     // Adds what paints each place of a row that differs from what is known of it.
-    fn join_change(&mut self, update: &Update<'_>, change: &RowChange) -> Result<(), NoMemory>
-        requires update { IsUpdate update.now }
-        requires known { is_known update.now.memory.now ≡ true }
-        requires change { IsChange update.now.scene.profile.now update.now.wanted.now.picture update.now.memory.now change.now }
-        ensures { OnOk result (Continues update.now.scene.profile.now self.old self.new (flat_map (joined_at update.now.scene.profile.now update.now.wanted.now.picture update.now.memory.now) (filter (differs update.now.scene.profile.now update.now.wanted.now.picture update.now.memory.now) (row_places update.now.wanted.now.picture.columns change.now.row)))) }
+    fn join_change(
+        &mut self,
+        scene: &Scene<'_>,
+        memory: &Memory,
+        change: &RowChange,
+    ) -> Result<(), NoMemory>
+        requires scene { IsScene scene.now }
+        requires size { IsSizeOf scene.now.picture.now memory.now }
+        requires known { is_known memory.now ≡ true }
+        requires change { IsChange scene.now.profile.now scene.now.picture.now memory.now change.now }
+        ensures { OnOk result (Continues scene.now.profile.now self.old self.new (flat_map (joined_at scene.now.profile.now scene.now.picture.now memory.now) (filter (differs scene.now.profile.now scene.now.picture.now memory.now) (row_places scene.now.picture.now.columns change.now.row)))) }
     {
-        let _size = update.wanted.size();
-        let looks = Some(update.memory.looks(change.row));
-        self.join_row(&update.scene, change.row, looks, change.start, change.end)
+        let _size = scene.picture.size();
+        let looks = Some(memory.looks(change.row));
+        self.join_row(scene, change.row, looks, change.start, change.end)
     }
 
     // Adds what paints each place that is not blank, then what places the cursor.
@@ -133,27 +146,78 @@ pub(crate) fn bytes_of_joined(
     ensures ops { IfOk result (λ counted. counted.1.items ≡ ops.items) }
 {
     let mut joining = Draft::on_remembered(&update.scene, update.memory, ops, false)?;
-    joining.join_changes(update, changes, Some(limit))?;
+    joining.join_changes(&update.scene, update.memory, changes, Some(limit))?;
     Ok((joining.bytes, joining.ops))
 }
 
-// The joined repaint.
-#[inline(never)]
-pub(crate) fn joined(
+/// The joined repaint, which brings a terminal to a picture: what paints each place that differs from what is
+/// remembered, row by row. A plan that paints only what differs has no more bytes (curs_refresh(3X), doupdate()).
+///
+/// - If the left neighbour of a place differs too and is seen with the same pen, the place is its character alone.
+/// - The rest of a line is erased if that takes no more bytes than places differ there.
+/// - Operations that change nothing are left out.
+/// - There are no operations if no place differs and the cursor is where it is wanted.
+///
+/// `None` if not all is known of the terminal, or if the profile's terminal cannot have the remembered pen. Picture and
+/// memory have the profile's size. Fails only when memory runs out.
+pub fn joined(
     alloc: Global,
-    update: &Update<'_>,
+    profile: &Profile,
+    memory: &Memory,
+    picture: &Picture,
+) -> Result<Option<Ops>, NoMemory>
+    requires fits { Fits profile.now picture.now }
+    requires size { IsSizeOf picture.now memory.now }
+    ensures ops { IfOk result (λ found. IfSome found (λ ops. ops ≡ joined_of profile.now memory.now picture.now)) }
+    ensures none { IfOk result (λ found. found ≡ None → (is_known memory.now ≡ false) ⊎ (IsShownPen (abilities profile.now) memory.now.state.pen → ⊥)) }
+{
+    profiles_have();
+    let _profile = profile.size();
+    let _memory = memory.size();
+    let _picture = picture.size();
+    if !memory.known() || !may_be(profile, memory) {
+        return Ok(None);
+    }
+    let scene = Scene {
+        painter: Painter::of(profile),
+        profile,
+        picture,
+    };
+    let mut changes = Changes::new(alloc);
+    scene.find_all(memory, &mut changes)?;
+    if is_nothing_left(&scene, memory, changes.as_slice()) {
+        return Ok(Some(Ops(Vec::new(alloc))));
+    }
+    Ok(Some(joined_by(alloc, &scene, memory, changes.as_slice())?))
+}
+
+// Whether no row differs, and the cursor is where it is wanted.
+pub(crate) fn is_nothing_left(scene: &Scene<'_>, memory: &Memory, changes: &[RowChange]) -> bool
+    requires changes { AreChanges scene.now.profile.now scene.now.picture.now memory.now changes.now scene.now.picture.now.rows }
+    ensures { result ≡ (is_none_left (differing scene.now.profile.now scene.now.picture.now memory.now) && is_placed memory.now scene.now.picture.now.wish) }
+{
+    changes.is_empty() && memory.is_placed(scene.picture.wish())
+}
+
+// The joined repaint, where something has to be done.
+#[inline(never)]
+pub(crate) fn joined_by(
+    alloc: Global,
+    scene: &Scene<'_>,
+    memory: &Memory,
     changes: &[RowChange],
 ) -> Result<Ops, NoMemory>
-    requires update { IsUpdate update.now }
-    requires known { is_known update.now.memory.now ≡ true }
-    requires changes { AreChanges update.now.scene.profile.now update.now.wanted.now.picture update.now.memory.now changes.now update.now.wanted.now.picture.rows }
-    requires pen { (is_there update.now.scene.profile.now Sgr0 ≡ true) ⊎ (is_plain_pen update.now.memory.now.state.pen ≡ true) }
-    requires some { (is_none_left (differing update.now.scene.profile.now update.now.wanted.now.picture update.now.memory.now) && is_placed update.now.memory.now update.now.wanted.now.picture.wish) ≡ false }
-    ensures { IfOk result (λ ops. ops ≡ joined_of update.now.scene.profile.now update.now.memory.now update.now.wanted.now.picture) }
+    requires scene { IsScene scene.now }
+    requires size { IsSizeOf scene.now.picture.now memory.now }
+    requires known { is_known memory.now ≡ true }
+    requires changes { AreChanges scene.now.profile.now scene.now.picture.now memory.now changes.now scene.now.picture.now.rows }
+    requires pen { (is_there scene.now.profile.now Sgr0 ≡ true) ⊎ (is_plain_pen memory.now.state.pen ≡ true) }
+    requires some { (is_none_left (differing scene.now.profile.now scene.now.picture.now memory.now) && is_placed memory.now scene.now.picture.now.wish) ≡ false }
+    ensures { IfOk result (λ ops. ops ≡ joined_of scene.now.profile.now memory.now scene.now.picture.now) }
 {
-    let ops = Vec::with_capacity(alloc, room_of(update.wanted.size()))?;
-    let mut joining = Draft::on_remembered(&update.scene, update.memory, ops, true)?;
-    joining.join_changes(update, changes, None)?;
+    let ops = Vec::with_capacity(alloc, room_of(scene.picture.size()))?;
+    let mut joining = Draft::on_remembered(scene, memory, ops, true)?;
+    joining.join_changes(scene, memory, changes, None)?;
     Ok(Ops(joining.ops))
 }
 

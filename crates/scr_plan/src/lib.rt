@@ -30,6 +30,7 @@ mod unknown_rows;
 mod visiting;
 mod wiping;
 
+pub use joined_changes::joined;
 pub use painting::scratch;
 pub use plain_repaint::plain;
 pub use plan_laws::{

@@ -4,11 +4,13 @@ ghost use Rattle.scr_virtual.specs.Ranges.{IsRange};
 ghost use Rattle.scr_memory.specs.Memories.{is_known, is_known_row};
 ghost use Rattle.scr_plan.specs.Code.Drafts.{HasChangesIn, KeepsRuns};
 ghost use Rattle.scr_plan.specs.Code.Planning.{AreChanges, AreNoneByOutside, IsChange, IsSameRow, range_by};
-ghost use Rattle.scr_plan.specs.Code.Scenes.{IsUpdate};
+ghost use Rattle.scr_plan.specs.Code.Scenes.{IsScene, IsUpdate};
+ghost use Rattle.scr_plan.specs.Repaints.{IsSizeOf};
 
 use crate::runs::Runs;
-use crate::scenes::Update;
+use crate::scenes::{Scene, Update};
 use scr_cells::NoMemory;
+use scr_memory::Memory;
 use scr_prices::RowChange;
 use scr_virtual::Virtual;
 use smallvec::SmallVec;
@@ -53,6 +55,45 @@ pub(crate) type Changes = SmallVec<RowChange, FEW_ROWS>;
 
 // How many rows differ in a usual update.
 const FEW_ROWS: usize = 4;
+
+impl Scene<'_> {
+    // Finds the rows that differ from what is remembered, whatever may have changed.
+    pub(crate) fn find_all(&self, memory: &Memory, changes: &mut Changes) -> Result<(), NoMemory>
+        requires scene { IsScene self.now }
+        requires size { IsSizeOf self.now.picture.now memory.now }
+        requires known { is_known memory.now ≡ true }
+        requires none { changes.old.items ≡ [] }
+        ensures { OnOk result (AreChanges self.now.profile.now self.now.picture.now memory.now changes.new.items self.now.picture.now.rows) }
+    {
+        let size = self.picture.size();
+        for row in 0..size.rows {
+            if let Some(change) = self.change_of(memory, row) {
+                changes.push(change)?;
+            }
+        }
+        Ok(())
+    }
+
+    // How a row differs from what is known of it, if it does.
+    fn change_of(&self, memory: &Memory, row: u32) -> Option<RowChange>
+        requires scene { IsScene self.now }
+        requires size { IsSizeOf self.now.picture.now memory.now }
+        requires row { row < self.now.picture.now.rows }
+        requires known { is_known_row memory.now row ≡ true }
+        ensures none { result ≡ None → IsSameRow self.now.profile.now self.now.picture.now memory.now row }
+        ensures row { IfSome result (λ change. change.row ≡ row) }
+        ensures some { IfSome result (IsChange self.now.profile.now self.now.picture.now memory.now) }
+    {
+        let end = self.picture.size().columns;
+        let line = self.line(row, Some(memory.looks(row)));
+        let start = self.unlike_from(&line, 0, end);
+        if start < end {
+            Some(RowChange { row, start, end })
+        } else {
+            None
+        }
+    }
+}
 
 impl Update<'_> {
     // Finds the rows that differ from what is remembered.

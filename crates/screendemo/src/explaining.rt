@@ -56,7 +56,7 @@ fn explain_update(
     let mut last = opened;
     run_to_update(alloc, lines, updates, &mut last)?;
     add_plan(alloc, &last.profile, &last.plan, page);
-    add_sums(alloc, &mut last, page)
+    add_sums(alloc, &last, page)
 }
 
 // Adds a line for each operation, with characters in a row on one line.
@@ -137,13 +137,12 @@ fn add_count(before: usize, count: usize, page: &mut Page) {
     page.add(b"  ");
 }
 
-// Adds the number of bytes of the last update, and of what it is compared with. The
-// terminal executes the joined repaint.
-fn add_sums(alloc: Global, last: &mut LastUpdate, page: &mut Page) -> Result<(), NoMemory> {
+// Adds the number of bytes of the last update, and of what it is compared with.
+fn add_sums(alloc: Global, last: &LastUpdate, page: &mut Page) -> Result<(), NoMemory> {
     let picture = last.screen.picture();
     let scratch = scratch_price(alloc, &last.profile, picture)?;
     let joined = if last.is_known {
-        joined_price(alloc, &last.profile, &mut last.terminal, picture)?
+        joined_price(alloc, &last.profile, &last.terminal, picture)?
     } else {
         None
     };

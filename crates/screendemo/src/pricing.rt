@@ -1,8 +1,8 @@
 //! Counting the bytes of operations: those of a plan, and those that it is compared with.
 
-use joined_repaint::joined;
 use scr_cells::{NoMemory, Picture};
-use scr_plan::scratch;
+use scr_memory::Memory;
+use scr_plan::{joined, scratch};
 use scr_term::{Ops, Profile};
 use scr_terminal::Terminal;
 use std::alloc::Global;
@@ -31,20 +31,23 @@ pub fn scratch_price(
 }
 
 /// The number of bytes of the joined repaint that brings a terminal to a picture; `None` if the
-/// sizes differ. The terminal executes it.
+/// sizes differ.
 pub fn joined_price(
     alloc: Global,
     profile: &Profile,
-    terminal: &mut Terminal,
+    terminal: &Terminal,
     picture: &Picture,
 ) -> Result<Option<usize>, NoMemory> {
-    let (size, other, own) = (picture.size(), profile.size(), terminal.size());
+    let memory = Memory::of(alloc, terminal.try_clone(alloc)?)?;
+    let (size, other, own) = (picture.size(), profile.size(), memory.size());
     if size.rows != other.rows || size.columns != other.columns {
         return Ok(None);
     }
     if size.rows != own.rows || size.columns != own.columns {
         return Ok(None);
     }
-    let ops = joined(alloc, profile, terminal, picture)?;
-    Ok(Some(price_of(profile, &ops)))
+    match joined(alloc, profile, &memory, picture)? {
+        Some(ops) => Ok(Some(price_of(profile, &ops))),
+        None => Ok(None),
+    }
 }
