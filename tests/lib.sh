@@ -47,6 +47,7 @@ program() {
 # built NAME..: proves and builds programs, where they are not said to be built. Each runs once on its input, in a
 # folder where it may write.
 built() {
+    local name words input
     for name; do
         if [ -n "${BUILT-}" ]; then
             [ -x "$(program "$name")" ] || { echo "$(program "$name"): not built" >&2; exit 2; }
@@ -70,8 +71,10 @@ word() { [ ! -d crates/hello ] || echo "$1"; }
 
 # refusing NAME..: compiles what forces writes or allocations of a program to fail (tests/NAME.c) to $work/NAME.so.
 refusing() {
+    local library
     for library; do
-        "$(dirname "$(rt doc)")/toolchain/bin/clang" -shared -fPIC -O1 -nostdlib -o "$work/$library.so" "tests/$library.c"
+        "$(dirname "$(rt doc)")/toolchain/bin/clang" -shared -fPIC -O1 -nostdlib -o "$work/$library.so" \
+            "tests/$library.c"
     done
 }
 
@@ -80,7 +83,7 @@ refusing() {
 # tried INPUT COMMAND..: runs a command on an input, as printf has it for `%b`; or with `-` on what the test reads. Its
 # status is in `status`, and what it printed in $work/out and $work/err.
 tried() {
-    input=$1
+    local input="$1"
     shift
     command=$* status=0
     if [ "$input" = - ]; then
@@ -98,14 +101,14 @@ full_errors() { "$@" 2> /dev/full; }
 
 # piped FILE COMMAND..: runs a command on what a pipe has of a file.
 piped() {
-    file=$1
+    local file="$1"
     shift
     head -c 20000000 "$file" | "$@"
 }
 
 # reading FILE COMMAND..: runs a command on a file, or a folder.
 reading() {
-    file=$1
+    local file="$1"
     shift
     "$@" < "$file"
 }
@@ -135,7 +138,7 @@ fail() {
 # expect STATUS OUTPUT LAST-LINE-OF-ERRORS INPUT COMMAND..: how a command ends on an input, and what it prints. `any`
 # stands for errors that are there, and are not compared.
 expect() {
-    wanted=$1 output=$2 errors=$3 ended=yes
+    local wanted="$1" output="$2" errors="$3" ended=yes
     shift 3
     tried "$@"
     printf '%b' "$output" > "$work/wanted"
@@ -153,7 +156,7 @@ expect() {
 
 # said STATUS ERRORS INPUT COMMAND..: how a command ends, and all that it prints on the standard error.
 said() {
-    wanted=$1 errors=$2
+    local wanted="$1" errors="$2"
     shift 2
     tried "$@"
     printf '%b' "$errors" > "$work/wanted"
