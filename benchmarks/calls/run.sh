@@ -9,12 +9,10 @@
 # with what the system does to load it, also over an ncurses that is linked in.
 # It needs valgrind, a C compiler, libncurses-dev, ncurses-base, and libhuttavel.a in c/, which make builds there.
 # Usage: benchmarks/calls/run.sh, from the top of the repository.
-set -e
-here=$(dirname "$0")
-top=$here/../..
-[ -e "$top/c/libhuttavel.a" ] || { sed -n 's/^# Usage: /usage: /p' "$0" >&2; exit 2; }
-folder=$(mktemp -d)
-trap 'rm -rf "$folder"' EXIT
+. "$(dirname "$0")/../../tests/lib.sh"
+here=benchmarks/calls top=. folder=$work
+[ -e c/libhuttavel.a ] || usage
+exec < /dev/null
 make -s -C "$top/c" curses
 for program in calls start; do
     cc -O2 -I "$top/c" -I "$top/include" -o "$folder/$program" "$here/$program.c" \
@@ -24,21 +22,14 @@ done
 cc -O2 -o "$folder/start-static" "$here/start.c" -Wl,-Bstatic -lncurses -ltinfo -Wl,-Bdynamic
 export LINES=24 COLUMNS=80 TERM=xterm
 
-# The instructions of a command.
-count() {
-    valgrind --tool=callgrind --callgrind-out-file=/dev/null "$@" 2>&1 >/dev/null </dev/null |
-        sed -n 's/.*Collected : //p'
-}
-
 # The instructions of 600 calls.
 calls() {
-    few=$(count "$1" "$2" 2)
-    many=$(count "$1" "$2" 12)
+    few=$(instructions "$1" "$2" 2)
+    many=$(instructions "$1" "$2" 12)
     echo $((many - few))
 }
 
-# A hundredth of a whole number, with its digits behind the point, and a sixtieth of a tenth.
-hundredths() { echo "$(($1 / 100)).$(($1 / 10 % 10))$(($1 % 10))"; }
+# A sixtieth of a tenth of a whole number, with its digit behind the point.
 each() { echo "$(($1 / 600)).$(($1 % 600 / 60))"; }
 
 # row CALL WORDS MOVES: a line of the table, of a call with so many moves in 60 calls.
@@ -88,9 +79,9 @@ row init_pair '`init_pair` of a pair in use on three lines, and `refresh`' 0
 row endwin '`endwin`, and `refresh`' 0
 echo
 
-ours=$(count "$folder/start")
-shared=$(count "$folder/start-ncurses")
-linked=$(count "$folder/start-static")
+ours=$(instructions "$folder/start")
+shared=$(instructions "$folder/start-ncurses")
+linked=$(instructions "$folder/start-static")
 echo "| | Ours | ncurses, shared | Ratio | ncurses, linked in | Ratio |"
 echo "|---|---|---|---|---|---|"
 echo "| a program that starts and ends | $ours | $shared | $(hundredths $(((100 * ours + shared / 2) / shared)))" \

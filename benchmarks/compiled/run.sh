@@ -12,18 +12,11 @@
 # cd crates/tic && rt run -- -c - < ../../examples/tiny.ti
 # Usage: benchmarks/compiled/run.sh [EVERY], from the top of the repository. All entries take some ten minutes on four
 # cores.
-set -eu
-cd "$(dirname "$0")/../.."
-ours=$PWD/crates/tic/out/tic
+. "$(dirname "$0")/../../tests/lib.sh"
+built tic
+ours=$(absolute "$(program tic)")
 theirs=${TIC:-/usr/bin/tic}
 every=${1:-1}
-work=$(mktemp -d)
-trap 'rm -rf "$work"' EXIT
-
-# instructions PROGRAM WORDS..: how many instructions the program takes
-instructions() {
-    valgrind --tool=callgrind --callgrind-out-file=/dev/null "$@" 2>&1 > /dev/null | awk '/Collected/ { print $NF }'
-}
 
 sh benchmarks/source/generate 2000 > "$work/source.ti"
 one=$(instructions "$ours" -o "$work/ours" "$work/source.ti")

@@ -3,9 +3,8 @@
 # holds after the first update, and the most that it held. It needs a C compiler, libncurses-dev, ncurses-base, and
 # c/libhuttavel.a.
 # Usage: benchmarks/memory/run.sh, from the top of the repository.
-set -eu
-folder=$(mktemp -d)
-trap 'rm -rf "$folder"' EXIT
+. "$(dirname "$0")/../../tests/lib.sh"
+folder=$work
 cc -O2 -I c -I include -o "$folder/ours" benchmarks/memory/memory.c c/curses.c c/libhuttavel.a
 cc -O2 -o "$folder/ncurses" benchmarks/memory/memory.c -lncurses -ltinfo
 export TERM=xterm
