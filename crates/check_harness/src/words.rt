@@ -13,6 +13,8 @@ pub struct Line<'a> {
     pub alloc: Global,
     /// The name of the call.
     pub name: &'a str,
+    // The line from that name on.
+    from: &'a [u8],
     /// The words after it.
     pub words: Words<'a>,
     /// What it answers, in words.
@@ -23,13 +25,29 @@ impl<'a> Line<'a> {
     /// A call whose name is the next word. Its answer is put into a buffer that may be used again.
     pub fn new(alloc: Global, words: Words<'a>, got: Buffer) -> Line<'a> {
         let mut words = words;
+        let from = words.rest;
         let name = words.name();
         Line {
             alloc,
             name,
+            from,
             words,
             got,
         }
+    }
+
+    /// Takes the next word as the name of the call.
+    pub fn rename(&mut self) {
+        self.from = self.words.rest;
+        self.name = self.words.name();
+    }
+
+    /// The call as it is written: its name and the words after it, up to what is wanted of the line.
+    pub fn call(&self) -> &'a [u8] {
+        let mut words = self.words;
+        words.skip();
+        let end = self.from.len().saturating_sub(words.rest.len());
+        self.from.get(..end).unwrap_or(&[]).trim_ascii()
     }
 
     /// The next word as a text.

@@ -122,7 +122,7 @@ fn add_both(alloc: Global, entry: &Entry, size: Size, got: &mut Buffer) {
 fn answer_of_opened(opened: &mut Recorded, line: &mut Line<'_>) -> Result<(), Trouble> {
     opened.is_listed = line.name == "all";
     if opened.is_listed {
-        line.name = line.words.name();
+        line.rename();
     }
     match line.name {
         "session" => opened.add_session(&mut line.got)?,

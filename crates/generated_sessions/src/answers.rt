@@ -1,38 +1,18 @@
 //! Answers of calls on a screen, in words.
 
-use check_harness::answers::{add_cell, add_flag, add_name, add_number, add_place, add_word};
+use check_harness::answers::{add_name, add_number, add_place, add_word};
 use check_harness::buffers::Buffer;
 use curses::{SendFault, UpdateFault};
 use scr_term::{Op, Spot};
 use scr_windows::WinFault;
 use screen_sessions::Answer;
-use std::io::ErrorKind;
+use std::io::{ErrorKind, Write};
 
-/// Adds what a call answered: `Ok` or what it gives, an update `Ok` and the number of its bytes; or why it was refused.
+/// Adds what a call answered.
 pub fn add_answer(answer: &Answer, got: &mut Buffer) {
-    match answer {
-        Answer::Nothing => add_word("Ok", got),
-        Answer::Made(win) => add_number(i64::from(win.0), got),
-        Answer::Added(added) => add_name(added, got),
-        Answer::Seen(cell) => add_cell(*cell, got),
-        Answer::Pair(row, column) => add_place(*row, *column, got),
-        Answer::Touched(touched) => add_flag(*touched, got),
-        Answer::Refused(fault) => add_name(fault, got),
-        Answer::Sent(sent) => add_sent(&Ok(sent.bytes), got),
-        Answer::Failed(UpdateFault::NoMemory) => add_word("NoMemory", got),
-        Answer::Failed(UpdateFault::Write { begun, sent, kind }) => add_failure(
-            "Write",
-            *kind,
-            &[begun.0.len() as u64, *sent],
-            got,
-        ),
-        Answer::Failed(UpdateFault::Flush { begun, sent, kind }) => add_failure(
-            "Flush",
-            *kind,
-            &[begun.0.len() as u64, *sent],
-            got,
-        ),
-    }
+    got.push(b' ');
+    let written = write!(got.vector(), "{answer}");
+    got.check(written.is_ok());
 }
 
 /// Whether a call wanted memory and got none.

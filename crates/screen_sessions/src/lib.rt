@@ -8,6 +8,7 @@ mod calls;
 mod cuts;
 mod faulty;
 mod fields;
+mod named_calls;
 mod parsing;
 mod reasons;
 mod sessions;
@@ -18,9 +19,7 @@ pub use call_faults::CallFault;
 pub use calls::Call;
 pub use cuts::cut_at;
 pub use faulty::{Faulty, WriterFailure, WriterFault};
-pub use fields::{
-    copied, count_fault_of, cut_field, field_and_text, hexadecimal_bytes, number,
-};
+pub use fields::{copied, count_fault_of, cut_field, field_and_text, hexadecimal_bytes, number};
 pub use parsing::read_call;
 pub use reasons::Reason;
 pub use sessions::{

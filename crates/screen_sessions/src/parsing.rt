@@ -6,9 +6,7 @@ ghost use Rattle.screen_sessions.specs.ShortCalls.{call_of, text_call};
 
 use crate::call_faults::CallFault;
 use crate::calls::Call;
-use crate::fields::{
-    copied, count_fault_of, cut_field, field_and_text, fields_after, number,
-};
+use crate::fields::{copied, count_fault_of, cut_field, field_and_text, fields_after, number};
 use crate::reasons::Reason;
 use crate::short_calls::short_call;
 use scr_windows::Win;

@@ -37,34 +37,44 @@ pub enum Reason<'a> {
 impl<'a> Display for Reason<'a> {
     fn fmt<W: fmt::Write>(&self, f: &mut Formatter<W>) -> fmt::Result {
         match self {
-            Reason::Unknown(word) => show("unknown command ", word, f),
-            Reason::NotNumber(word) => show("not a number: ", word, f),
-            Reason::NotSetting(word) => show("not 0 or 1: ", word, f),
-            Reason::NotCharacter(word) => show("not one character of 33 to 126: ", word, f),
-            Reason::NotHexadecimal(word) => show("not two hexadecimal digits: ", word, f),
+            Reason::Unknown(word) => show(self.words(), " ", word, f),
+            Reason::NotNumber(word)
+            | Reason::NotSetting(word)
+            | Reason::NotCharacter(word)
+            | Reason::NotHexadecimal(word) => show(self.words(), ": ", word, f),
             _ => f.write_str(self.words()),
         }
     }
 }
 
 impl<'a> Reason<'a> {
-    // The text of a reason that shows no word.
-    fn words(&self) -> &'static str {
+    /// The reason without the word that it shows.
+    pub fn words(&self) -> &'static str {
         match self {
             Reason::Empty => "empty line",
+            Reason::Unknown(_) => "unknown command",
+            Reason::NotNumber(_) => "not a number",
+            Reason::NotSetting(_) => "not 0 or 1",
+            Reason::NotCharacter(_) => "not one character of 33 to 126",
+            Reason::NotHexadecimal(_) => "not two hexadecimal digits",
             Reason::WrongCount => "wrong number of words",
             Reason::EmptyWord => "a blank too many",
             Reason::OutOfRange => "number out of range",
             Reason::WrongSize => "size outside 1 to 500",
             Reason::NotUtf8 => "not UTF-8",
-            _ => "",
         }
     }
 }
 
 // Writes what is wrong, and the beginning of the word.
-fn show<W: fmt::Write>(wrong: &str, word: &[u8], f: &mut Formatter<W>) -> fmt::Result {
+fn show<W: fmt::Write>(
+    wrong: &str,
+    between: &str,
+    word: &[u8],
+    f: &mut Formatter<W>,
+) -> fmt::Result {
     f.write_str(wrong)?;
+    f.write_str(between)?;
     for byte in word.get(..MOST_SHOWN).unwrap_or(word) {
         show_byte(*byte, f)?;
     }

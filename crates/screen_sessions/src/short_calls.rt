@@ -97,6 +97,8 @@ fn setting_call<'a>(name: &'a [u8], fields: &[&'a [u8]]) -> Result<Call, Reason<
             [] => Ok(Call::Doupdate),
             _ => Err(count_fault(fields)),
         }
+    } else if name.is_empty() {
+        Err(Reason::EmptyWord)
     } else {
         Err(Reason::Unknown(name))
     }
@@ -182,15 +184,7 @@ fn taking<'a>(fields: &[&'a [u8]]) -> Result<Call, Reason<'a>>
 {
     let (pad, row, column, corners) = seven(fields)?;
     let (top, left, bottom, right) = corners;
-    Ok(Call::PadNoutrefresh(
-        Win(pad),
-        row,
-        column,
-        top,
-        left,
-        bottom,
-        right,
-    ))
+    Ok(Call::PadNoutrefresh(Win(pad), row, column, top, left, bottom, right))
 }
 
 // `pair N F B`.

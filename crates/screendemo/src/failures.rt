@@ -1,6 +1,5 @@
 //! Why the program ends with a status other than 0.
 
-use crate::reasons::Reason;
 use screen_scripts::DemoFault;
 use thiserror::Error;
 
@@ -21,7 +20,7 @@ pub enum DemoFailure {
     Demo(DemoFault),
     /// The script was not run to its end, since a line is bad for this reason.
     #[error("{0}: {1}")]
-    Line(DemoFault, Reason),
+    Line(DemoFault, String),
     /// Memory ran out.
     #[error("out of memory")]
     NoMemory,

@@ -5,22 +5,21 @@
 //! command.
 #![tactic(auto)]
 
-mod arguments;
+mod bad_lines;
 mod explaining;
 mod failures;
 mod last_update;
 mod pages;
 mod pictures;
 mod pricing;
-mod reasons;
 mod scripts;
 mod words;
 
+use bad_lines::reason_at;
 use explaining::explanation;
 use failures::DemoFailure;
 use pictures::picture;
 use program_input::{InputFault, read_input};
-use reasons::reason_at;
 use scr_cells::Charset;
 pub use screen_scripts::{DemoFault, Output, refusals, run, run_as};
 use std::io;

@@ -7,4 +7,4 @@ use Rattle.scr_plan.specs.Scratch.{places}
 use Rattle.scr_plan.proofs.strokes.Draft.join_changes.Given as goal
 
 abbrev pub invariant-loop-change : goal.invariant-loop-change
-invariant-loop-change l = Continues l.scene.profile.now l.fn.self l.self (flat_map (joined_at l.scene.profile.now l.scene.picture.now l.memory.now) (filter (differs l.scene.profile.now l.scene.picture.now l.memory.now) (places (row_after l.changes l.change-index) l.scene.picture.now.columns)))
+invariant-loop-change l = Continues l.scene.profile.now l.fn.self l.self (flat_map (joined_at l.scene.profile.now l.scene.picture.now l.memory) (filter (differs l.scene.profile.now l.scene.picture.now l.memory) (places (row_after l.changes l.change-index) l.scene.picture.now.columns)))
