@@ -1,6 +1,6 @@
 /* Reads keys by ncurses' wgetch again and again, on the entry that TERM names.
-   Usage: keys text|keys|broken wgetch|read KEYS COUNT: gives 720 bytes COUNT times by a pipe, and takes all keys that they are, or
-   with `read` each byte by read(2) alone, as wgetch reads it. */
+   Usage: keys text|keys|broken wgetch|read KEYS COUNT: gives 720 bytes COUNT times by a pipe, and takes all keys that
+   they are, or with `read` each byte by read(2) alone, as wgetch reads it. */
 #include <curses.h>
 #include <stdlib.h>
 #include <unistd.h>

@@ -20,11 +20,12 @@ export TERMINFO="$folder/terminfo"
 # entry KEYS: compiles an entry of so many keys, the texts of which are numbered.
 entry() {
     {
-        printf 'keys%s|an entry of so many keys,\n\tam, xenl, cols#80, lines#24, clear=\\E[H\\E[2J, cup=\\E[%%i%%p1%%d;%%p2%%dH,\n' "$1"
+        printf 'keys%s|an entry of so many keys,\n\tam, xenl, cols#80, lines#24,\n' "$1"
+        printf '\tclear=\\E[H\\E[2J, cup=\\E[%%i%%p1%%d;%%p2%%dH,\n'
         number=0
-        for name in $(seq -f kf%g 0 63) kbeg kbs kcan kcbt kclo kclr kcmd kcpy kcrt kctab kcub1 kcud1 kcuf1 kcuu1 kdch1 kdl1 \
-            ked kel kend kent kext kfnd khlp khome khts kich1 kil1 kind kll kmov kmrk kmsg knp knxt kopn kopt kpp kprt kprv \
-            krdo kref kres krfr kri krmir krpl krst ksav kslt kspd ktbc kund ka1 ka3 kb2 kc1; do
+        for name in $(seq -f kf%g 0 63) kbeg kbs kcan kcbt kclo kclr kcmd kcpy kcrt kctab kcub1 kcud1 kcuf1 kcuu1 kdch1 \
+            kdl1 ked kel kend kent kext kfnd khlp khome khts kich1 kil1 kind kll kmov kmrk kmsg knp knxt kopn kopt kpp \
+            kprt kprv krdo kref kres krfr kri krmir krpl krst ksav kslt kspd ktbc kund ka1 ka3 kb2 kc1; do
             [ "$number" -lt "$1" ] || break
             printf '\t%s=\\E[%03d~,\n' "$name" "$number"
             number=$((number + 1))

@@ -1,4 +1,4 @@
-/* Calls touchline and wnoutrefresh of curses.h again and again, or paints the whole screen, on the entry that TERM names.
+/* Calls touchline and wnoutrefresh of curses.h again and again, or paints the whole screen, on the entry of TERM.
    Usage: refresh touch|take|take_new|paint ROWS COLUMNS LINES COUNT */
 #include <curses.h>
 #include <stdio.h>

@@ -1,6 +1,6 @@
 #!/bin/sh
-# Counts the processor instructions of a refresh by curses.h, over this library and over ncurses, at two sizes: the same C
-# source on both sides, and the bundled entry, compiled by tic.
+# Counts the processor instructions of a refresh by curses.h, over this library and over ncurses, at two sizes: the same
+# C source on both sides, and the bundled entry, compiled by tic.
 # `take`: a window over the whole screen is copied to the virtual screen (wnoutrefresh), with all its lines touched, one
 # line, or none, and with cells that the virtual screen has already or new ones. What the touching costs is counted by
 # itself and taken away on both sides. No update comes between the calls. `paint`: a full screen is painted anew
@@ -62,8 +62,10 @@ for size in "24 80" "100 300"; do
                 "$(taken "$folder/ncurses" $action "$1" "$2" "$lines")"
         done
     done
-    row "take, lines 0" "$1x$2" 0 "$(taken "$folder/ours" take "$1" "$2" 0)" "$(taken "$folder/ncurses" take "$1" "$2" 0)"
-    row "paint" "$1x$2" $(($1 * $2)) "$(ten "$folder/ours" paint "$1" "$2" 0)" "$(ten "$folder/ncurses" paint "$1" "$2" 0)"
+    row "take, lines 0" "$1x$2" 0 "$(taken "$folder/ours" take "$1" "$2" 0)" \
+        "$(taken "$folder/ncurses" take "$1" "$2" 0)"
+    row "paint" "$1x$2" $(($1 * $2)) "$(ten "$folder/ours" paint "$1" "$2" 0)" \
+        "$(ten "$folder/ncurses" paint "$1" "$2" 0)"
 done
 echo
 echo "call | size | paint | scratch_bytes | a place: paint, scratch_bytes | ratio"

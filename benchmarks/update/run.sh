@@ -7,11 +7,11 @@
 # pens, one page is shown for the other, all lines move by one, and a letter is typed into the middle of a line. Both
 # sides make the same calls, write into memory, and show the screen already when counting begins. What comes before is
 # counted by itself and taken away: the drawing, and for doupdate alone the taking too.
-# There are two tables, and ours is the same C source as theirs in both, over curses.h of here. In the first the entry is
-# the bundled one, compiled by tic, for the last two changes with the texts that insert and delete lines and characters.
+# There are two tables, and ours is the same C source as theirs in both, over curses.h of here. In the first the entry
+# is the bundled one, compiled by tic, for the last two changes with the texts that insert and delete lines and characters.
 # In the second it is the machine's xterm.
-# It needs valgrind, a C compiler, libncurses-dev, ncurses' tic, ncurses-base, and libhuttavel.a in c/, which make builds
-# there.
+# It needs valgrind, a C compiler, libncurses-dev, ncurses' tic, ncurses-base, and libhuttavel.a in c/, which make
+# builds there.
 # Usage: benchmarks/update/run.sh ["ROWS COLUMNS" ..], from the top of the repository.
 set -e
 here=$(dirname "$0")

@@ -1,7 +1,7 @@
 #!/bin/sh
 # Counts the processor instructions of window calls of curses.h, over this library and over ncurses: a byte of an added
-# text, and a cell of a window that is erased, copied, scrolled or given another background, at two sizes. Both sides are
-# the same C source.
+# text, and a cell of a window that is erased, copied, scrolled or given another background, at two sizes. Both sides
+# are the same C source.
 # It needs valgrind, a C compiler, libncurses-dev, ncurses-base, and libhuttavel.a in c/, which make builds there.
 # Usage: benchmarks/windows/run.sh, from the top of the repository.
 set -e

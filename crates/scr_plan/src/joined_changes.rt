@@ -185,23 +185,39 @@ pub fn joined(
     };
     let mut changes = Changes::new(alloc);
     scene.find_all(memory, &mut changes)?;
-    if is_nothing_left(&scene, memory, changes.as_slice()) {
+    if is_shown(&scene, memory, changes.as_slice()) {
         return Ok(Some(Ops(Vec::new(alloc))));
     }
-    Ok(Some(joined_by(alloc, &scene, memory, changes.as_slice())?))
+    Ok(Some(joined_from(alloc, &scene, memory, changes.as_slice())?))
 }
 
 // Whether no row differs, and the cursor is where it is wanted.
-pub(crate) fn is_nothing_left(scene: &Scene<'_>, memory: &Memory, changes: &[RowChange]) -> bool
+fn is_shown(scene: &Scene<'_>, memory: &Memory, changes: &[RowChange]) -> bool
     requires changes { AreChanges scene.now.profile.now scene.now.picture.now memory.now changes.now scene.now.picture.now.rows }
     ensures { result ≡ (is_none_left (differing scene.now.profile.now scene.now.picture.now memory.now) && is_placed memory.now scene.now.picture.now.wish) }
 {
     changes.is_empty() && memory.is_placed(scene.picture.wish())
 }
 
-// The joined repaint, where something has to be done.
+// The joined repaint of an update, where something has to be done.
 #[inline(never)]
 pub(crate) fn joined_by(
+    alloc: Global,
+    update: &Update<'_>,
+    changes: &[RowChange],
+) -> Result<Ops, NoMemory>
+    requires update { IsUpdate update.now }
+    requires known { is_known update.now.memory.now ≡ true }
+    requires changes { AreChanges update.now.scene.profile.now update.now.wanted.now.picture update.now.memory.now changes.now update.now.wanted.now.picture.rows }
+    requires pen { (is_there update.now.scene.profile.now Sgr0 ≡ true) ⊎ (is_plain_pen update.now.memory.now.state.pen ≡ true) }
+    requires some { (is_none_left (differing update.now.scene.profile.now update.now.wanted.now.picture update.now.memory.now) && is_placed update.now.memory.now update.now.wanted.now.picture.wish) ≡ false }
+    ensures { IfOk result (λ ops. ops ≡ joined_of update.now.scene.profile.now update.now.memory.now update.now.wanted.now.picture) }
+{
+    joined_from(alloc, &update.scene, update.memory, changes)
+}
+
+// The joined repaint of a scene, where something has to be done.
+fn joined_from(
     alloc: Global,
     scene: &Scene<'_>,
     memory: &Memory,

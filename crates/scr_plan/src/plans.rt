@@ -11,7 +11,7 @@ ghost use Rattle.scr_plan.specs.Repaints.{IsSizeOf, IsUpToDate, ShowsOutside, di
 ghost use Rattle.scr_plan.specs.Scratch.{Fits};
 ghost use Rattle.scr_plan.specs.Code.Scenes.{IsUpdate};
 
-use crate::joined_changes::{bytes_anew, bytes_of_joined, is_nothing_left, joined_anew, joined_by};
+use crate::joined_changes::{bytes_anew, bytes_of_joined, joined_anew, joined_by};
 use crate::joining::price_of;
 use crate::looked::{Changes, Looked};
 use crate::painting::Painter;
@@ -121,10 +121,20 @@ fn changes(alloc: Global, update: &Update<'_>) -> Result<Ops, NoMemory>
     let _wanted = update.wanted.size();
     let mut changes = Changes::new(alloc);
     update.find_changes(&mut changes)?;
-    if is_nothing_left(&update.scene, update.memory, changes.as_slice()) {
+    if is_nothing_left(update, changes.as_slice()) {
         return Ok(Ops(Vec::new(alloc)));
     }
     paint_changes(alloc, update, changes.as_slice())
+}
+
+// Whether no row differs, and the cursor is where it is wanted.
+fn is_nothing_left(update: &Update<'_>, changes: &[RowChange]) -> bool
+    requires changes { AreChanges update.now.scene.profile.now update.now.wanted.now.picture update.now.memory.now changes.now update.now.wanted.now.picture.rows }
+    ensures { result ≡ (is_none_left (differing update.now.scene.profile.now update.now.wanted.now.picture update.now.memory.now) && is_placed update.now.memory.now update.now.wanted.now.picture.wish) }
+{
+    let _wanted = update.wanted.size();
+    let _memory = update.memory.size();
+    changes.is_empty() && update.memory.is_placed(update.wanted.picture().wish())
 }
 
 // Paints the rows that differ, in the shorter of two ways.
@@ -153,7 +163,7 @@ fn paint_changes(alloc: Global, update: &Update<'_>, changes: &[RowChange]) -> R
     if draft.is_worth(bytes, update.wanted.size()) {
         return Ok(Ops(draft.ops));
     }
-    joined_by(alloc, &update.scene, update.memory, changes)
+    joined_by(alloc, update, changes)
 }
 
 // The plan if not all is known, or the whole screen is to be painted anew.

@@ -1,17 +1,25 @@
-use Rattle.std.proofs.Common.{ap, refl, sym, true, [], ◌∙◌, ◌++◌, if◌then◌else◌}
-use Rattle.scr_plan.specs.Repaints.{joined_places, without_idle}
-use Rattle.scr_plan.specs.Scratch.{places_cursor, resets}
-use Rattle.scr_plan.proofs.JoinedLaws.{joined_assoc}
+use Rattle.std.proofs.Common.{IfOk, false, subst, sym, ◌&&◌, ◌≡◌}
+use Rattle.scr_memory.specs.Memories.{is_placed}
+use Rattle.scr_plan.specs.Code.Planning.{AreChanges}
+use Rattle.scr_plan.specs.Repaints.{IsSizeOf, differing, is_none_left, joined_of}
 use Rattle.scr_plan.proofs.joined_changes.joined_by.Goals as goal
+
+pub joined_from-requires-clause-size : goal.joined_from-requires-clause-size
+joined_from-requires-clause-size c =
+    let update = c.args.update.now in
+    subst (λ picture. IsSizeOf picture update.memory.now) (sym c.requires.update.picture) c.requires.update.size
+
+pub joined_from-requires-clause-changes : goal.joined_from-requires-clause-changes
+joined_from-requires-clause-changes c =
+    let update = c.args.update.now in
+    subst (λ picture. AreChanges update.scene.profile.now picture update.memory.now c.args.changes.now picture.rows) (sym c.requires.update.picture) c.requires.changes
+
+pub joined_from-requires-clause-some : goal.joined_from-requires-clause-some
+joined_from-requires-clause-some c =
+    let update = c.args.update.now in
+    subst (λ picture. (is_none_left (differing update.scene.profile.now picture update.memory.now) && is_placed update.memory.now picture.wish) ≡ false) (sym c.requires.update.picture) c.requires.some
 
 pub returns : goal.returns
 returns c =
-    let profile = c.args.scene.now.profile.now in
-    let picture = c.args.scene.now.picture.now in
-    let memory = c.args.memory.now in
-    let all = resets profile ++ joined_places profile picture memory ++ resets profile ++ places_cursor picture.wish in
-    let end = c.in_ok-join_changes.ensures.all refl true c.in_ok-ops.ops.items memory.state (resets profile) c.in_ok-joining.ensures in
-    end.ops refl
-    ∙ ap (λ ops. ops ++ without_idle profile memory.state (resets profile ++ (joined_places profile picture memory ++ resets profile ++ places_cursor picture.wish))) c.in_ok-ops.ensures.items
-    ∙ sym (ap (without_idle profile memory.state) (joined_assoc (resets profile) (joined_places profile picture memory) (resets profile) (places_cursor picture.wish)))
-    ∙ sym (ap (λ b. if b then [] else without_idle profile memory.state all) c.requires.some)
+    let update = c.args.update.now in
+    subst (λ picture. IfOk c.joined_from.result (λ ops. ops ≡ joined_of update.scene.profile.now update.memory.now picture)) c.requires.update.picture c.joined_from.ensures

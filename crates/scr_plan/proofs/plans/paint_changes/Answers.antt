@@ -1,29 +1,11 @@
-use Rattle.std.proofs.Common.{ℕ, false, length, rules, subst, sym, ◌≤◌, ◌+◌, ◌*◌, ◌&&◌, ◌≡◌}
-use Rattle.scr_memory.specs.Memories.{is_placed}
-use Rattle.scr_plan.specs.Code.Planning.{AreChanges}
+use Rattle.std.proofs.Common.{ℕ, length, rules, subst, sym, ◌≤◌, ◌+◌, ◌*◌}
 use Rattle.scr_plan.specs.Plans.{IsPlan}
-use Rattle.scr_plan.specs.Repaints.{IsSizeOf, differing, is_none_left}
 use Rattle.scr_plan.proofs.JoiningLaws.{may_reset}
 use Rattle.scr_plan.proofs.ShortPlanLaws.{short_plan, whole_of}
 use Rattle.scr_plan.proofs.plans.paint_changes.Goals as goal
 
 pub joined_by-requires-clause-pen : goal.joined_by-requires-clause-pen
 joined_by-requires-clause-pen c = may_reset _ (c.profiles_have.ensures _ c.size-profile.ensures.profile) _ c.requires.pen
-
-pub joined_by-requires-clause-size : goal.joined_by-requires-clause-size
-joined_by-requires-clause-size c =
-    let update = c.args.update.now in
-    subst (λ picture. IsSizeOf picture update.memory.now) (sym c.requires.update.picture) c.requires.update.size
-
-pub joined_by-requires-clause-changes : goal.joined_by-requires-clause-changes
-joined_by-requires-clause-changes c =
-    let update = c.args.update.now in
-    subst (λ picture. AreChanges update.scene.profile.now picture update.memory.now c.args.changes.now picture.rows) (sym c.requires.update.picture) c.requires.changes
-
-pub joined_by-requires-clause-some : goal.joined_by-requires-clause-some
-joined_by-requires-clause-some c =
-    let update = c.args.update.now in
-    subst (λ picture. (is_none_left (differing update.scene.profile.now picture update.memory.now) && is_placed update.memory.now picture.wish) ≡ false) (sym c.requires.update.picture) c.requires.some
 
 pub returns-then-is_worth : goal.returns-then-is_worth
 returns-then-is_worth c =

@@ -1,7 +1,7 @@
 use Rattle.std.proofs.Common.{ap, rules, sym, ◌∙◌, ◌&&◌, ◌≡◌}
 use Rattle.scr_memory.specs.Memories.{is_placed}
 use Rattle.scr_plan.proofs.ChangedRowLaws.{changes_left}
-use Rattle.scr_plan.proofs.joined_changes.is_nothing_left.Goals as goal
+use Rattle.scr_plan.proofs.joined_changes.is_shown.Goals as goal
 
 pub returns-then-is_empty : goal.returns-then-is_empty
 returns-then-is_empty c =
