@@ -36,6 +36,9 @@ absolute() {
 
 # ---- Programs
 
+# crates: the crates, by their names in crates.txt. A folder of another name may be left from another version.
+crates() { sed -n 's/^\([a-z_0-9]*\)[ a-z]*:.*/\1/p' crates.txt; }
+
 # program NAME: where a program is.
 program() {
     case ${BUILT-} in
@@ -65,9 +68,9 @@ built() {
 
 # The crates of the examples list, clock and session: one with a word for each, or one for each. example WORD is where
 # one is, and word WORD its first word on the command line, if it has one.
-examples() { ls crates | grep -x 'hello\|hello_list\|hello_clock\|hello_session'; }
-example() { if [ -d crates/hello ]; then program hello; else program "hello_$1"; fi; }
-word() { [ ! -d crates/hello ] || echo "$1"; }
+examples() { crates | grep -x 'hello\|hello_list\|hello_clock\|hello_session'; }
+example() { if [ -d crates/hello/src ]; then program hello; else program "hello_$1"; fi; }
+word() { [ ! -d crates/hello/src ] || echo "$1"; }
 
 # refusing NAME..: compiles what forces writes or allocations of a program to fail (tests/NAME.c) to $work/NAME.so.
 refusing() {

@@ -8,7 +8,7 @@
 # window than the one before, and what sets these is counted with it. The whole of the program that starts is counted,
 # with what the system does to load it, also over an ncurses that is linked in.
 # It needs valgrind, a C compiler, libncurses-dev, ncurses-base, and libhuttavel.a in c/, which make builds there.
-# Usage: benchmarks/calls/run.sh, from the top of the repository.
+# Usage: benchmarks/calls/run.sh, from anywhere.
 . "$(dirname "$0")/../../tests/lib.sh"
 here=benchmarks/calls top=. folder=$work
 [ -e c/libhuttavel.a ] || usage

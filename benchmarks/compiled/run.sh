@@ -10,7 +10,7 @@
 #
 # Wants valgrind, Debian's ncurses-bin and ncurses-term, and the program built:
 # cd crates/tic && rt run -- -c - < ../../examples/tiny.ti
-# Usage: benchmarks/compiled/run.sh [EVERY], from the top of the repository. All entries take some ten minutes on four
+# Usage: benchmarks/compiled/run.sh [EVERY], from anywhere. All entries take some ten minutes on four
 # cores.
 . "$(dirname "$0")/../../tests/lib.sh"
 built tic

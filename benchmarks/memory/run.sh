@@ -2,7 +2,7 @@
 # Compares the memory that a program with a full screen of text holds with that of the same program over ncurses: what it
 # holds after the first update, and the most that it held. It needs a C compiler, libncurses-dev, ncurses-base, and
 # c/libhuttavel.a.
-# Usage: benchmarks/memory/run.sh, from the top of the repository.
+# Usage: benchmarks/memory/run.sh, from anywhere.
 . "$(dirname "$0")/../../tests/lib.sh"
 folder=$work
 cc -O2 -I c -I include -o "$folder/ours" benchmarks/memory/memory.c c/curses.c c/libhuttavel.a
