@@ -8,7 +8,7 @@ use std::alloc::Global;
 
 /// A call that a line makes, and its answer.
 #[derive(Drop)]
-pub struct Line<'a> {
+pub struct CallLine<'a> {
     /// What allocates.
     pub alloc: Global,
     /// The name of the call.
@@ -21,13 +21,13 @@ pub struct Line<'a> {
     pub got: Buffer,
 }
 
-impl<'a> Line<'a> {
+impl<'a> CallLine<'a> {
     /// A call whose name is the next word. Its answer is put into a buffer that may be used again.
-    pub fn new(alloc: Global, words: Words<'a>, got: Buffer) -> Line<'a> {
+    pub fn new(alloc: Global, words: Words<'a>, got: Buffer) -> CallLine<'a> {
         let mut words = words;
         let from = words.rest;
         let name = words.name();
-        Line {
+        CallLine {
             alloc,
             name,
             from,

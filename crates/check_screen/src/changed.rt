@@ -3,7 +3,7 @@ ghost use Rattle.std.specs.Prelude.{◌≡◌};
 
 use check_harness::answers::{add_any_place, add_count};
 use check_harness::troubles::Trouble;
-use check_harness::words::Line;
+use check_harness::words::CallLine;
 use generated_sessions::bytes_of;
 use scr_cells::{Attrs, NoMemory, Size};
 use scr_memory::Memory;
@@ -18,7 +18,7 @@ use std::alloc::Global;
 /// rows and columns at a row and a column, whose first place has this byte. Adds for each row of the screen the first
 /// and the last column that may have changed since, and the first and the last that may look otherwise, or `none`; then
 /// how many bytes a plan of the bundled entry sends where nothing is known of the terminal.
-pub fn check_changed(line: &mut Line<'_>) -> Result<(), Trouble> {
+pub fn check_changed(line: &mut CallLine<'_>) -> Result<(), Trouble> {
     let size = line.words.size()?;
     let done = match Desk::new(line.alloc, size) {
         Ok(mut desk) => copy_on(&mut desk, size, line),
@@ -32,14 +32,18 @@ pub fn check_changed(line: &mut Line<'_>) -> Result<(), Trouble> {
 }
 
 // The same with the windows of a desk, and a virtual screen of its size.
-fn copy_on(desk: &mut Desk, size: Size, line: &mut Line<'_>) -> Result<(), Trouble> {
+fn copy_on(desk: &mut Desk, size: Size, line: &mut CallLine<'_>) -> Result<(), Trouble> {
     let mut screen = Virtual::new(line.alloc, size)?;
     copy_both(desk, &mut screen, line)
 }
 
 // Copies the first window, settles, copies a new one, and adds what may have changed since, and how many bytes a plan
 // sends.
-fn copy_both(desk: &mut Desk, screen: &mut Virtual, line: &mut Line<'_>) -> Result<(), Trouble> {
+fn copy_both(
+    desk: &mut Desk,
+    screen: &mut Virtual,
+    line: &mut CallLine<'_>,
+) -> Result<(), Trouble> {
     take(screen, desk, Win(0))?;
     screen.settle();
     let win = add_window(desk, line)?;
@@ -58,7 +62,7 @@ fn copy_both(desk: &mut Desk, screen: &mut Virtual, line: &mut Line<'_>) -> Resu
 }
 
 // Makes the window that a line tells, with a byte in its first place.
-fn add_window(desk: &mut Desk, line: &mut Line<'_>) -> Result<Win, Trouble> {
+fn add_window(desk: &mut Desk, line: &mut CallLine<'_>) -> Result<Win, Trouble> {
     let words = &mut line.words;
     let (rows, columns) = (words.number(), words.number());
     let (row, column) = (words.number(), words.number());

@@ -5,7 +5,7 @@ use crate::terminals::{add_at, add_colours, add_size};
 use check_harness::answers::{add_flag, add_number, add_text, add_word};
 use check_harness::buffers::{Buffer, are_same};
 use check_harness::troubles::Trouble;
-use check_harness::words::Line;
+use check_harness::words::CallLine;
 use generated_sessions::{add_defined, add_spot};
 use scr_cells::{Look, Size};
 use scr_terminal::EcmaScreen;
@@ -13,7 +13,7 @@ use screen_scripts::print_screen;
 
 /// The lines `feed TEXT`, `after TEXT` and `undefined_after TEXT TEXT`, and those that ask. Tells whether a line is one
 /// of them.
-pub fn answer_of_ecma(subjects: &mut Subjects, line: &mut Line<'_>) -> Result<bool, Trouble> {
+pub fn answer_of_ecma(subjects: &mut Subjects, line: &mut CallLine<'_>) -> Result<bool, Trouble> {
     let Some(screen) = &mut subjects.ecma else {
         return Ok(false);
     };
@@ -46,7 +46,7 @@ pub fn print_state(screen: &EcmaScreen, text: &mut Buffer) {
 
 // The lines `screen_size`, `shown R C`, `spot`, `rendition`, `colours`, `marked`, how many places show something,
 // `printed` and `state`.
-fn ask(screen: &EcmaScreen, line: &mut Line<'_>) -> Result<bool, Trouble> {
+fn ask(screen: &EcmaScreen, line: &mut CallLine<'_>) -> Result<bool, Trouble> {
     let (words, got) = (&mut line.words, &mut line.got);
     match line.name {
         "screen_size" => add_size(screen.size(), got),
@@ -81,7 +81,7 @@ fn row_of(screen: &EcmaScreen, row: u32) -> &[Look] {
 }
 
 // Feeds a text, and adds whether it is defined and whether the screen waits for more.
-fn feed(screen: &mut EcmaScreen, line: &mut Line<'_>) {
+fn feed(screen: &mut EcmaScreen, line: &mut CallLine<'_>) {
     let text = line.text();
     let fed = screen.feed(text.bytes());
     add_defined(fed.is_ok(), &mut line.got);
@@ -91,7 +91,7 @@ fn feed(screen: &mut EcmaScreen, line: &mut Line<'_>) {
 }
 
 // Adds the state of a blank screen of this size after a text.
-fn add_after(size: Size, line: &mut Line<'_>) -> Result<(), Trouble> {
+fn add_after(size: Size, line: &mut CallLine<'_>) -> Result<(), Trouble> {
     let mut text = line.text();
     let mut screen = EcmaScreen::new(line.alloc, size)?;
     let fed = screen.feed(text.bytes());
@@ -106,7 +106,7 @@ fn add_after(size: Size, line: &mut Line<'_>) -> Result<(), Trouble> {
 
 // Adds whether a text that is fed to a blank screen of this size after another, which is defined, is undefined, and the
 // screen then stays as it was.
-fn add_undefined_after(size: Size, line: &mut Line<'_>) -> Result<(), Trouble> {
+fn add_undefined_after(size: Size, line: &mut CallLine<'_>) -> Result<(), Trouble> {
     let (head, tail) = (line.text(), line.text());
     let (mut before, mut after) = (Buffer::new(line.alloc), Buffer::new(line.alloc));
     let mut screen = EcmaScreen::new(line.alloc, size)?;

@@ -7,7 +7,7 @@ use check_harness::answers::{add_number, add_word};
 use check_harness::buffers::{Buffer, are_same};
 use check_harness::random::Random;
 use check_harness::troubles::Trouble;
-use check_harness::words::Line;
+use check_harness::words::CallLine;
 use generated_sessions::scalar;
 use scr_cells::{Attrs, Cell, Charset, Size};
 use scr_keys::{Key, TypedReader};
@@ -34,7 +34,7 @@ static BROKEN: [&[(u8, u8)]; 7] = [
 
 // A part of a text.
 #[derive(Drop)]
-struct Part {
+struct TextPart {
     bytes: Buffer,
     // What the bytes encode; without it, each of them belongs to no character.
     value: Option<char>,
@@ -46,7 +46,7 @@ struct Part {
 /// UTF-8. Of what is typed, each character beyond ASCII has to come as one, and every other byte as it is. Of what is
 /// fed, each character of one column has to be shown; all else has to be undefined, with the screen as it was before.
 /// Adds `agrees`, or the number of the first text that does not, with what came or what is shown.
-pub fn check_texts(line: &mut Line<'_>) -> Result<(), Trouble> {
+pub fn check_texts(line: &mut CallLine<'_>) -> Result<(), Trouble> {
     let (count, seed) = (line.words.number(), line.words.number());
     let mut random = Random::new(seed);
     let mut got = Buffer::new(line.alloc);
@@ -141,7 +141,7 @@ fn add_state(row: &Buffer, columns: u32, text: &mut Buffer) {
 
 // A part of a text: a scalar value beyond ASCII, of any plane; a letter; the beginning of a character, of which the
 // last byte does not come; or some bytes that belong to none.
-fn next_part(alloc: Global, random: &mut Random) -> Part {
+fn next_part(alloc: Global, random: &mut Random) -> TextPart {
     let mut bytes = Buffer::new(alloc);
     let value = match scalar(random) {
         value if value.is_ascii() => 'é',
@@ -162,7 +162,7 @@ fn next_part(alloc: Global, random: &mut Random) -> Part {
         }
         _ => add_broken(random, &mut bytes),
     }
-    Part {
+    TextPart {
         bytes,
         value: match kind {
             0..4 => Some(value),
@@ -182,7 +182,7 @@ fn add_broken(random: &mut Random, bytes: &mut Buffer) {
     }
 }
 
-impl Part {
+impl TextPart {
     // Whether a screen that speaks UTF-8 shows it.
     fn is_shown(&self) -> bool {
         match self.value {

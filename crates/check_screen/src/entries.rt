@@ -4,7 +4,7 @@ use crate::subjects::{Subjects, keep};
 use check_harness::answers::{add_name, add_text, add_word};
 use check_harness::buffers::Buffer;
 use check_harness::troubles::Trouble;
-use check_harness::words::{Line, Words};
+use check_harness::words::{CallLine, Words};
 use curses::{OpenFault, closing_text, opening_text};
 use generated_sessions::change_capability;
 use scr_term::ProfileFault;
@@ -14,7 +14,7 @@ use ti_caps::{Bytes, CapFault, Entry, Kind, bundled, name_of};
 /// The lines `entry TEXT`, `bundled`, `flag NAME`, `number NAME N`, `string NAME TEXT`, `text NAME TEXT` and `absent
 /// NAME`, which make an entry and have it say something, and `opening_text` and `closing_text`. Tells whether a line is
 /// one of them.
-pub fn answer_of_entry(subjects: &mut Subjects, line: &mut Line<'_>) -> Result<bool, Trouble> {
+pub fn answer_of_entry(subjects: &mut Subjects, line: &mut CallLine<'_>) -> Result<bool, Trouble> {
     if matches!(line.name, "entry" | "bundled") {
         match make_entry(line)? {
             Ok(made) => keep(made, &mut subjects.entry, &mut line.got),
@@ -37,7 +37,7 @@ pub fn answer_of_entry(subjects: &mut Subjects, line: &mut Line<'_>) -> Result<b
 }
 
 // The bundled entry, or one that says nothing, with the names that a line has.
-fn make_entry(line: &mut Line<'_>) -> Result<Result<Entry, CapFault>, Trouble> {
+fn make_entry(line: &mut CallLine<'_>) -> Result<Result<Entry, CapFault>, Trouble> {
     if line.name == "bundled" {
         return Ok(bundled(line.alloc));
     }

@@ -5,7 +5,7 @@ use crate::subjects::{Subjects, keep};
 use check_harness::answers::{add_number, add_word};
 use check_harness::buffers::Buffer;
 use check_harness::troubles::Trouble;
-use check_harness::words::{Line, Words};
+use check_harness::words::{CallLine, Words};
 use curses::{OpenFault, Opening, Screen};
 use scr_cells::{Charset, Size};
 use scr_keys::{Key, KeyFault, KeyReader, KeySet, KeyTable, Typed, TypedItems, TypedReader};
@@ -47,7 +47,7 @@ impl Keyboard {
 /// The lines `reader` and `screen`, which open a keyboard, `full_reader` and `full_screen`, which open one of all names
 /// of term.h, and `beside` and one of these words, which opens one beside it; `byte BYTE`, `bytes TEXT`, `idle`, and `keys`, which takes all keys that wait, or has `none`; `typed`, which
 /// has what is typed by what arrives; and `typed_texts`. Tells whether a line is one of them.
-pub fn answer_of_keys(subjects: &mut Subjects, line: &mut Line<'_>) -> Result<bool, Trouble> {
+pub fn answer_of_keys(subjects: &mut Subjects, line: &mut CallLine<'_>) -> Result<bool, Trouble> {
     match (line.name, &subjects.entry) {
         ("reader" | "full_reader" | "screen" | "full_screen", Some(entry)) => {
             open(entry, line.name, &mut subjects.keyboard, line);
@@ -68,7 +68,7 @@ pub fn answer_of_keys(subjects: &mut Subjects, line: &mut Line<'_>) -> Result<bo
 
 // Opens a keyboard in place of another, by the word `reader` or `full_reader`, or on a screen. A function that owns a
 // keyboard takes long to prove, so there is this one alone.
-fn open(entry: &Entry, name: &str, keyboard: &mut Option<Keyboard>, line: &mut Line<'_>) {
+fn open(entry: &Entry, name: &str, keyboard: &mut Option<Keyboard>, line: &mut CallLine<'_>) {
     let opened = match name {
         "reader" => open_reader(line.alloc, entry, KeySet::Table),
         "full_reader" => open_reader(line.alloc, entry, KeySet::All),
@@ -107,7 +107,7 @@ fn open_screen(alloc: Global, entry: &Entry, keys: KeySet) -> Result<Keyboard, O
     Ok(Keyboard::Screen(screen))
 }
 
-fn answer_of_keyboard(keyboard: &mut Keyboard, line: &mut Line<'_>) -> bool {
+fn answer_of_keyboard(keyboard: &mut Keyboard, line: &mut CallLine<'_>) -> bool {
     match line.name {
         "byte" => add_done(keyboard.take(Some(line.words.byte())), &mut line.got),
         "bytes" => {
@@ -145,7 +145,7 @@ fn add_keys(keyboard: &mut Keyboard, got: &mut Buffer) {
 
 // Adds what is typed by what arrives at a new reader: bytes, `slot` with the position of a key, and `idle`; and how many
 // bytes wait then.
-fn add_typed(line: &mut Line<'_>) {
+fn add_typed(line: &mut CallLine<'_>) {
     let mut reader = TypedReader::new();
     for _ in 0..ALL {
         if line.words.is_at_end() {

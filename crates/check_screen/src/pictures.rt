@@ -9,13 +9,16 @@ use check_harness::answers::{
 };
 use check_harness::buffers::Buffer;
 use check_harness::troubles::Trouble;
-use check_harness::words::{Line, Words};
+use check_harness::words::{CallLine, Words};
 use scr_cells::{Cell, Picture};
 
 /// The lines `put R C B A P`, `put_row R C B A P`, `fill R C E B A P`, `wish R C`, `wish none`, `set_pair P F G`, and `set_pair_of P F G`,
 /// where a foreground and a background are set; and those that ask. `put_row` puts a blank after the cell, `fill` puts
 /// a cell in the columns from C up to E. Tells whether a line is one of them.
-pub fn answer_of_picture(subjects: &mut Subjects, line: &mut Line<'_>) -> Result<bool, Trouble> {
+pub fn answer_of_picture(
+    subjects: &mut Subjects,
+    line: &mut CallLine<'_>,
+) -> Result<bool, Trouble> {
     let Some(picture) = &mut subjects.picture else {
         return Ok(false);
     };
@@ -32,7 +35,7 @@ pub fn answer_of_picture(subjects: &mut Subjects, line: &mut Line<'_>) -> Result
 
 /// The lines `wished`, `picture_size`, `picture_rows`, `picture_at R C` and `pair P`. Tells whether a line is one of
 /// them.
-pub fn add_seen(picture: &Picture, line: &mut Line<'_>) -> Result<bool, Trouble> {
+pub fn add_seen(picture: &Picture, line: &mut CallLine<'_>) -> Result<bool, Trouble> {
     let (words, got) = (&mut line.words, &mut line.got);
     match line.name {
         "wished" => add_wish(picture, got),

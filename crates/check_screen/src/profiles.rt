@@ -6,12 +6,15 @@ use crate::subjects::{Subjects, keep, ready};
 use crate::terminals::add_size;
 use check_harness::answers::{add_any, add_count, add_flag, add_number, add_text, add_word};
 use check_harness::troubles::Trouble;
-use check_harness::words::Line;
+use check_harness::words::CallLine;
 use scr_term::{Profile, ProfileFault};
 
 /// The lines `profile R C`, `admit` and `admit R C`, which make a profile, and those that say what it tells. Tells
 /// whether a line is one of them.
-pub fn answer_of_profile(subjects: &mut Subjects, line: &mut Line<'_>) -> Result<bool, Trouble> {
+pub fn answer_of_profile(
+    subjects: &mut Subjects,
+    line: &mut CallLine<'_>,
+) -> Result<bool, Trouble> {
     let made = match line.name {
         "profile" => Profile::ecma48(line.alloc, line.words.size()?),
         "admit" => admit(subjects, line)?,
@@ -30,7 +33,7 @@ pub fn answer_of_profile(subjects: &mut Subjects, line: &mut Line<'_>) -> Result
 // The profile of an entry, of its own size or of the one that a line has.
 fn admit(
     subjects: &Subjects,
-    line: &mut Line<'_>,
+    line: &mut CallLine<'_>,
 ) -> Result<Result<Profile, ProfileFault>, Trouble> {
     let size = if line.words.is_at_end() {
         None
@@ -43,7 +46,7 @@ fn admit(
 
 // The lines `profile_size`, `shows`, `shows_colours`, `longest`, `has OP`, `cost OP` and `render OP`, which has `none`
 // where the terminal has no such operation.
-fn answer_of_made(profile: &Profile, line: &mut Line<'_>) -> Result<bool, Trouble> {
+fn answer_of_made(profile: &Profile, line: &mut CallLine<'_>) -> Result<bool, Trouble> {
     let (words, got) = (&mut line.words, &mut line.got);
     match line.name {
         "profile_size" => add_size(profile.size(), got),

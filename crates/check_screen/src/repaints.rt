@@ -5,7 +5,7 @@ use crate::operations::add_op;
 use crate::subjects::{Subjects, ready};
 use check_harness::answers::{add_count, add_text};
 use check_harness::troubles::Trouble;
-use check_harness::words::Line;
+use check_harness::words::CallLine;
 use generated_sessions::{add_defined, bytes_of, joined_on, scratch_on, step_on};
 use scr_cells::{NoMemory, Picture};
 use scr_plan::{plain, scratch_bytes};
@@ -16,7 +16,10 @@ use std::alloc::Global;
 /// operations by their names, each by its bytes and how many there are, or how many operations and how many bytes there
 /// are; `scratch_bytes`, all bytes of the first, and `feed_painted`, which feeds them to the screen. The terminal does
 /// the joined repaint. Tells whether a line is one of them.
-pub fn answer_of_repaint(subjects: &mut Subjects, line: &mut Line<'_>) -> Result<bool, Trouble> {
+pub fn answer_of_repaint(
+    subjects: &mut Subjects,
+    line: &mut CallLine<'_>,
+) -> Result<bool, Trouble> {
     let alloc = line.alloc;
     let ops = match line.name {
         "scratch" | "painted" | "painted_count" => {
@@ -41,7 +44,7 @@ pub fn answer_of_repaint(subjects: &mut Subjects, line: &mut Line<'_>) -> Result
 }
 
 // Adds operations in the form that a line wants.
-fn add_ops(profile: &Profile, ops: &Ops, line: &mut Line<'_>) -> Result<(), Trouble> {
+fn add_ops(profile: &Profile, ops: &Ops, line: &mut CallLine<'_>) -> Result<(), Trouble> {
     let (name, got) = (line.name, &mut line.got);
     let mut bytes = Vec::new(line.alloc);
     if matches!(name, "scratch" | "joined" | "plain") {

@@ -7,7 +7,7 @@ use crate::windows::answer_of_windows;
 use check_harness::answers::{add_count, add_name, add_word};
 use check_harness::buffers::Buffer;
 use check_harness::troubles::Trouble;
-use check_harness::words::{Line, Words};
+use check_harness::words::{CallLine, Words};
 use curses::{Device, OpenFault, Screen};
 use generated_sessions::{
     MOVING, Recorded, check_sessions, count_cuts, obey, opening_of, read_entry,
@@ -19,7 +19,7 @@ use std::alloc::Global;
 use ti_caps::{Bytes, Entry};
 
 /// Makes the call of a line about a screen, and adds what it answers.
-pub fn answer_of_screen(subjects: &mut Subjects, line: &mut Line<'_>) -> Result<(), Trouble> {
+pub fn answer_of_screen(subjects: &mut Subjects, line: &mut CallLine<'_>) -> Result<(), Trouble> {
     match line.name {
         "screen" | "utf8_screen" => open(&mut subjects.opened, None, line),
         "moving" | "utf8_moving" => open(&mut subjects.opened, Some(MOVING), line),
@@ -46,7 +46,7 @@ pub fn answer_of_screen(subjects: &mut Subjects, line: &mut Line<'_>) -> Result<
 fn open<'a>(
     opened: &mut Option<Recorded>,
     given: Option<&'a str>,
-    line: &mut Line<'a>,
+    line: &mut CallLine<'a>,
 ) -> Result<(), Trouble> {
     let size = line.words.size()?;
     let mut names = match given {
@@ -73,7 +73,7 @@ fn add_refused(refusal: Option<OpenFault>, got: &mut Buffer) {
 
 // The line `drawn R C TEXT`, which opens a screen of so many rows and columns on the bundled entry, with a text in its
 // first window, whose lines are untouched then and whose cursor is in the first place.
-fn open_drawn(opened: &mut Option<Recorded>, line: &mut Line<'_>) -> Result<(), Trouble> {
+fn open_drawn(opened: &mut Option<Recorded>, line: &mut CallLine<'_>) -> Result<(), Trouble> {
     open(opened, Some(""), line)?;
     let text = line.text();
     text.done()?;
@@ -96,7 +96,7 @@ fn draw(opened: &mut Recorded, text: Bytes, got: &mut Buffer) -> Result<(), Trou
 
 // The line `refusal R C NAME ..`: opens a screen and makes a session without calls, and adds why both are refused, `Ok`
 // where neither is, or `differs`. Nothing may be written then.
-fn add_refusal(line: &mut Line<'_>) -> Result<(), Trouble> {
+fn add_refusal(line: &mut CallLine<'_>) -> Result<(), Trouble> {
     let size = line.words.size()?;
     match read_entry(line.alloc, &mut line.words) {
         Some(entry) => add_both(line.alloc, &entry, size, &mut line.got),
@@ -119,7 +119,7 @@ fn add_both(alloc: Global, entry: &Entry, size: Size, got: &mut Buffer) {
 }
 
 // The lines about a screen that is open. `all CALL` is a call or an update that is made by a list of it alone.
-fn answer_of_opened(opened: &mut Recorded, line: &mut Line<'_>) -> Result<(), Trouble> {
+fn answer_of_opened(opened: &mut Recorded, line: &mut CallLine<'_>) -> Result<(), Trouble> {
     opened.is_listed = line.name == "all";
     if opened.is_listed {
         line.rename();
@@ -141,7 +141,7 @@ fn answer_of_opened(opened: &mut Recorded, line: &mut Line<'_>) -> Result<(), Tr
 }
 
 // The line `update_within N`, an update that answers `Ok` alone where it ends well and sends at most N bytes.
-fn update_within(opened: &mut Recorded, line: &mut Line<'_>) -> Result<(), Trouble> {
+fn update_within(opened: &mut Recorded, line: &mut CallLine<'_>) -> Result<(), Trouble> {
     let (most, got) = (line.words.number() as usize, &mut line.got);
     opened.update(None, got)?;
     let is_within = got.bytes().starts_with(b" Ok ") && opened.last_sent().len() <= most;

@@ -4,7 +4,7 @@ use crate::subjects::Subjects;
 use check_harness::answers::{add_name, add_number, add_text, add_word};
 use check_harness::buffers::Buffer;
 use check_harness::troubles::Trouble;
-use check_harness::words::Line;
+use check_harness::words::CallLine;
 use generated_sessions::{add_defined, read_fails, writer_that};
 use scr_cells::Charset;
 use screen_scripts::{DemoFault, Output, refusals, run, run_as};
@@ -12,7 +12,7 @@ use std::io::ErrorKind;
 
 /// The lines `run TEXT`, `run_raw TEXT`, `utf8_run TEXT`, `refusals TEXT`, `run_writing N TEXT`, `run_stuck N TEXT`,
 /// `run_flushing TEXT` and `feed_run TEXT`, where the text is a script. Tells whether a line is one of them.
-pub fn answer_of_script(subjects: &mut Subjects, line: &mut Line<'_>) -> Result<bool, Trouble> {
+pub fn answer_of_script(subjects: &mut Subjects, line: &mut CallLine<'_>) -> Result<bool, Trouble> {
     let fails = match (line.name, line.name.strip_prefix("run")) {
         ("run_raw" | "utf8_run" | "refusals" | "feed_run", _) => None,
         (_, Some(end)) => match read_fails(end, &mut line.words) {

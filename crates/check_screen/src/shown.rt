@@ -6,7 +6,7 @@ use check_harness::answers::{add_count, add_name, add_text, add_text_shown, add_
 use check_harness::buffers::Buffer;
 use check_harness::texts::write_byte;
 use check_harness::troubles::Trouble;
-use check_harness::words::Line;
+use check_harness::words::CallLine;
 use generated_sessions::{Recorded, add_spot};
 use scr_term::Op;
 
@@ -14,7 +14,7 @@ use scr_term::Op;
 /// `wish` about the picture, `most`, how many bytes the next update may send, `sent`, what the last one sent,
 /// `first_sent N`, the first N bytes of that, and `begun`, the operations that the last update began. Tells whether a
 /// line is one of them.
-pub fn answer_of_shown(opened: &Recorded, line: &mut Line<'_>) -> Result<bool, Trouble> {
+pub fn answer_of_shown(opened: &Recorded, line: &mut CallLine<'_>) -> Result<bool, Trouble> {
     let (emulated, picture) = (&opened.emulated, opened.screen.picture());
     let (words, got) = (&mut line.words, &mut line.got);
     match line.name {

@@ -18,7 +18,7 @@ use check_harness::answers::add_word;
 use check_harness::buffers::Buffer;
 use check_harness::checking::{Subject, put};
 use check_harness::troubles::Trouble;
-use check_harness::words::{Line, Words};
+use check_harness::words::{CallLine, Words};
 use edit_text::Text;
 use generated_sessions::Recorded;
 use scr_cells::{Charset, Picture};
@@ -64,7 +64,7 @@ impl Subject for Subjects {
     }
 
     fn answer(&mut self, words: &mut Words<'_>, got: &mut Buffer) {
-        let mut line = Line::new(self.alloc, *words, got.take(self.alloc));
+        let mut line = CallLine::new(self.alloc, *words, got.take(self.alloc));
         match self.is_answered(&mut line) {
             Ok(true) => {}
             Ok(false) => line
@@ -123,7 +123,7 @@ impl Subjects {
     }
 
     // Makes the call of a line, and tells whether it is one.
-    fn is_answered(&mut self, line: &mut Line<'_>) -> Result<bool, Trouble> {
+    fn is_answered(&mut self, line: &mut CallLine<'_>) -> Result<bool, Trouble> {
         if line.name == "about" {
             return self.begin(line);
         }
@@ -136,7 +136,7 @@ impl Subjects {
         }
     }
 
-    fn answer_of_terminals(&mut self, line: &mut Line<'_>) -> Result<bool, Trouble> {
+    fn answer_of_terminals(&mut self, line: &mut CallLine<'_>) -> Result<bool, Trouble> {
         Ok(
             answer_of_entry(self, line)?
                 || answer_of_profile(self, line)?
@@ -153,7 +153,7 @@ impl Subjects {
     // The lines `terminal R C`, `memory R C`, a terminal of this size of which nothing is known, `picture R C` and
     // `screen R C`, an emulated screen, or `utf8_screen R C`, one that speaks UTF-8; and `fed_texts`. Tells whether a
     // line is one of them.
-    fn make_sized(&mut self, line: &mut Line<'_>) -> Result<bool, Trouble> {
+    fn make_sized(&mut self, line: &mut CallLine<'_>) -> Result<bool, Trouble> {
         let (alloc, words, got) = (line.alloc, &mut line.words, &mut line.got);
         match line.name {
             "terminal" => keep(
@@ -180,7 +180,7 @@ impl Subjects {
     }
 
     // The line `about WHAT`: nothing is there yet for the lines after it.
-    fn begin(&mut self, line: &mut Line<'_>) -> Result<bool, Trouble> {
+    fn begin(&mut self, line: &mut CallLine<'_>) -> Result<bool, Trouble> {
         let about = match line.words.name() {
             "values" => About::Values,
             "keys" => About::Keys,

@@ -7,7 +7,7 @@ use check_harness::answers::{
 };
 use check_harness::buffers::Buffer;
 use check_harness::troubles::Trouble;
-use check_harness::words::Line;
+use check_harness::words::CallLine;
 use generated_sessions::{add_defined, add_spot, step_on};
 use scr_cells::{Look, Size};
 use scr_memory::Memory;
@@ -16,7 +16,10 @@ use scr_terminal::Terminal;
 
 /// The lines `step OP`, `terminal_spot`, `terminal_attrs`, `terminal_colours`, `terminal_at R C` and
 /// `terminal_rows`. Tells whether a line is one of them.
-pub fn answer_of_terminal(subjects: &mut Subjects, line: &mut Line<'_>) -> Result<bool, Trouble> {
+pub fn answer_of_terminal(
+    subjects: &mut Subjects,
+    line: &mut CallLine<'_>,
+) -> Result<bool, Trouble> {
     let Some(terminal) = &mut subjects.terminal else {
         return Ok(false);
     };
@@ -87,7 +90,7 @@ pub fn dump_looks(looks: &[Look], bytes: &mut Buffer) {
 }
 
 /// The lines `follow OP`, `disturb FIRST N` and `known`. Tells whether a line is one of them.
-pub fn answer_of_memory(subjects: &mut Subjects, line: &mut Line<'_>) -> Result<bool, Trouble> {
+pub fn answer_of_memory(subjects: &mut Subjects, line: &mut CallLine<'_>) -> Result<bool, Trouble> {
     let Some(memory) = &mut subjects.memory else {
         return Ok(false);
     };
@@ -104,7 +107,7 @@ pub fn answer_of_memory(subjects: &mut Subjects, line: &mut Line<'_>) -> Result<
     Ok(true)
 }
 
-fn follow(memory: &mut Memory, profile: &Profile, line: &mut Line<'_>) -> Result<(), Trouble> {
+fn follow(memory: &mut Memory, profile: &Profile, line: &mut CallLine<'_>) -> Result<(), Trouble> {
     let op = read_op(&mut line.words)?;
     let (size, other) = (memory.size(), profile.size());
     if size.rows != other.rows || size.columns != other.columns {

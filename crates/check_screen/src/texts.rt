@@ -6,12 +6,12 @@ use check_harness::answers::{
 };
 use check_harness::buffers::Buffer;
 use check_harness::troubles::Trouble;
-use check_harness::words::{Line, Words};
-use edit_text::{Part, Place, Text};
+use check_harness::words::{CallLine, Words};
+use edit_text::{Text, TextPart, TextPlace};
 
 /// The lines `new` and `read TEXT`, which make a text, and those that change it or ask. Tells whether a line is one of
 /// them.
-pub fn answer_of_text(subjects: &mut Subjects, line: &mut Line<'_>) -> Result<bool, Trouble> {
+pub fn answer_of_text(subjects: &mut Subjects, line: &mut CallLine<'_>) -> Result<bool, Trouble> {
     let made = match (line.name, &mut subjects.text) {
         ("new", _) => Text::new(line.alloc),
         ("read", _) => Text::read(line.alloc, line.text().bytes()),
@@ -36,14 +36,14 @@ pub fn dump_text(text: &Text, bytes: &mut Buffer) {
 
 // The lines `insert LINE COLUMN BYTE`, `insert_character LINE COLUMN CODE`, `split LINE COLUMN`, `delete LINE COLUMN`,
 // which has what was deleted, and `undo`, which has a place or `none`.
-fn change(text: &mut Text, line: &mut Line<'_>) -> bool {
+fn change(text: &mut Text, line: &mut CallLine<'_>) -> bool {
     let (words, got) = (&mut line.words, &mut line.got);
     match line.name {
-        "insert" => add_done(text.insert(place(words), Part::Byte(words.byte())), got),
+        "insert" => add_done(text.insert(place(words), TextPart::Byte(words.byte())), got),
         "insert_character" => {
             let place = place(words);
             let code = char::from_u32(words.number()).unwrap_or('\0');
-            add_done(text.insert(place, Part::Character(code)), got);
+            add_done(text.insert(place, TextPart::Character(code)), got);
         }
         "split" => add_done(text.split(place(words)), got),
         "delete" => add_made(text.delete(place(words)), got, add_part),
@@ -55,7 +55,7 @@ fn change(text: &mut Text, line: &mut Line<'_>) -> bool {
 
 // The lines `lines`, `line LINE`, `length LINE`, `inside LINE COLUMN`, `part LINE COLUMN`, `part_before LINE COLUMN`,
 // `part_start LINE COLUMN`, `find LINE COLUMN TEXT`, `version` and `bytes`.
-fn ask(text: &Text, line: &mut Line<'_>) -> bool {
+fn ask(text: &Text, line: &mut CallLine<'_>) -> bool {
     let (alloc, words, got) = (line.alloc, &mut line.words, &mut line.got);
     match line.name {
         "lines" => add_count(text.line_count() as u64, got),
@@ -77,17 +77,17 @@ fn ask(text: &Text, line: &mut Line<'_>) -> bool {
     true
 }
 
-fn place(words: &mut Words<'_>) -> Place {
+fn place(words: &mut Words<'_>) -> TextPlace {
     let (line, column) = (words.number() as usize, words.number() as usize);
-    Place { line, column }
+    TextPlace { line, column }
 }
 
 // Adds a part, `Character` with its code or `Byte`, or `none`.
-fn add_part(part: Option<Part>, got: &mut Buffer) {
+fn add_part(part: Option<TextPart>, got: &mut Buffer) {
     add_any(part, got, |part, got| {
         let (word, number) = match part {
-            Part::Character(character) => ("Character", u32::from(character)),
-            Part::Byte(byte) => ("Byte", u32::from(byte)),
+            TextPart::Character(character) => ("Character", u32::from(character)),
+            TextPart::Byte(byte) => ("Byte", u32::from(byte)),
         };
         add_word(word, got);
         add_count(u64::from(number), got);
@@ -95,7 +95,7 @@ fn add_part(part: Option<Part>, got: &mut Buffer) {
 }
 
 // Adds a place, or `none`.
-fn add_place(place: Option<Place>, got: &mut Buffer) {
+fn add_place(place: Option<TextPlace>, got: &mut Buffer) {
     add_any(place, got, |place, got| {
         add_count(place.line as u64, got);
         add_count(place.column as u64, got);

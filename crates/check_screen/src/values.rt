@@ -4,7 +4,7 @@ use bitflags::Flags;
 use check_harness::answers::{add_any, add_cell, add_count, add_flag, add_look, add_number};
 use check_harness::buffers::Buffer;
 use check_harness::troubles::Trouble;
-use check_harness::words::{Line, Words};
+use check_harness::words::{CallLine, Words};
 use scr_cells::{
     Attrs, Cell, Charset, Look, Size, first_difference, first_look_difference, last_difference,
     last_look_difference, shown_before,
@@ -14,7 +14,7 @@ use scr_cells::{
 /// A P`, `cell_of CODE A P`, `new_look B A F G`, `blank_cell`, `blank_look` and `same_look B A F G B A F G`, where a
 /// look is a byte, attributes, a foreground and a background; and those about rows. Tells whether a line is one of
 /// them.
-pub fn answer_of_values(line: &mut Line<'_>) -> Result<bool, Trouble> {
+pub fn answer_of_values(line: &mut CallLine<'_>) -> Result<bool, Trouble> {
     let (words, got) = (&mut line.words, &mut line.got);
     match line.name {
         "new_size" => add_flag(Size::new(words.number(), words.number()).is_some(), got),
@@ -47,7 +47,7 @@ pub fn answer_of_values(line: &mut Line<'_>) -> Result<bool, Trouble> {
 // The line `differences TEXT TEXT`: the first and the last place in which two rows of cells differ, and then two rows
 // of looks; and the line `shown_before TEXT TEXT A`: how far the looks of the first surely show the cells of the second
 // on a terminal that shows these attributes.
-fn add_of_rows(line: &mut Line<'_>) -> Result<(), Trouble> {
+fn add_of_rows(line: &mut CallLine<'_>) -> Result<(), Trouble> {
     let (one, other) = (read_row(line)?, read_row(line)?);
     if one.cells.len() != other.cells.len() || one.looks.len() != other.looks.len() {
         return Err(Trouble::Bad("rows of different lengths"));
@@ -82,7 +82,7 @@ struct Row {
     looks: Vec<Look>,
 }
 
-fn read_row(line: &mut Line<'_>) -> Result<Row, Trouble> {
+fn read_row(line: &mut CallLine<'_>) -> Result<Row, Trouble> {
     let text = line.text();
     let mut row = Row {
         cells: Vec::new(line.alloc),

@@ -6,7 +6,7 @@ use check_harness::answers::{
 };
 use check_harness::buffers::Buffer;
 use check_harness::troubles::Trouble;
-use check_harness::words::{Line, Words};
+use check_harness::words::{CallLine, Words};
 use curses::Screen;
 use generated_sessions::{is_touched, line_of};
 use scr_cells::Cell;
@@ -19,7 +19,7 @@ pub static FIELDS: &str =
 /// The lines `screen_size`, `count`, `nth INDEX`, `rows W`, `touched W`, `line W R`, `codes W R`, `attributes W R` and
 /// `pairs W R`, and `window W FIELD`, `window W is_touched R` and `window W line R`. Tells whether a line is one of
 /// them.
-pub fn answer_of_windows(screen: &Screen, line: &mut Line<'_>) -> Result<bool, Trouble> {
+pub fn answer_of_windows(screen: &Screen, line: &mut CallLine<'_>) -> Result<bool, Trouble> {
     let (words, got) = (&mut line.words, &mut line.got);
     match line.name {
         "screen_size" => add_size(screen.screen(), got),

@@ -3,13 +3,13 @@
 use crate::answers::{add_entry, add_made};
 use check_harness::answers::{add_text, add_word};
 use check_harness::buffers::Buffer;
-use check_harness::words::{Line, Words};
+use check_harness::words::{CallLine, Words};
 use std::alloc::Global;
 use ti_caps::Bytes;
 use ti_database::{FilePath, MemoryFiles, Variables, find_in, paths};
 
 /// The line `store PATH BYTES ..`: files in place of those before.
-pub fn store(store: &mut MemoryFiles, line: &mut Line<'_>) {
+pub fn store(store: &mut MemoryFiles, line: &mut CallLine<'_>) {
     store.0.clear();
     for _ in 0..u32::MAX {
         if line.words.is_at_end() {
@@ -20,7 +20,7 @@ pub fn store(store: &mut MemoryFiles, line: &mut Line<'_>) {
     add_word("Ok", &mut line.got);
 }
 
-fn store_file(store: &mut MemoryFiles, line: &mut Line<'_>) {
+fn store_file(store: &mut MemoryFiles, line: &mut CallLine<'_>) {
     let path = FilePath(line.text().into_bytes());
     let bytes = Bytes(line.text().into_bytes());
     let pushed = store.0.push((path, bytes));
@@ -28,7 +28,7 @@ fn store_file(store: &mut MemoryFiles, line: &mut Line<'_>) {
 }
 
 /// The lines `paths NAME VARIABLE=VALUE..` and `look-up NAME VARIABLE=VALUE..`. Tells whether a line is one of them.
-pub fn answer_of_database(store: &MemoryFiles, line: &mut Line<'_>) -> bool {
+pub fn answer_of_database(store: &MemoryFiles, line: &mut CallLine<'_>) -> bool {
     if line.name != "paths" && line.name != "look-up" {
         return false;
     }

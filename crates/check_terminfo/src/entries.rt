@@ -3,12 +3,12 @@
 use crate::answers::{add_done, add_entry, add_made, keep, read_slot};
 use check_harness::answers::{add_any, add_count, add_flag, add_number, add_text, add_word};
 use check_harness::troubles::Trouble;
-use check_harness::words::{Line, Words};
+use check_harness::words::{CallLine, Words};
 use ti_caps::{CapFault, Entry, Slot, bundled};
 use ti_source::print;
 
 /// The line `entry NAMES`, and those about the entry that there is. Tells whether a line is one of them.
-pub fn answer_of_entry(entry: &mut Option<Entry>, line: &mut Line<'_>) -> bool {
+pub fn answer_of_entry(entry: &mut Option<Entry>, line: &mut CallLine<'_>) -> bool {
     match line.name {
         "entry" => make_entry(entry, line),
         "shown" | "is-bundled" | "names" | "unnamed" | "print" | "flag" | "number" | "text" =>
@@ -34,7 +34,7 @@ pub fn answer_of_entry(entry: &mut Option<Entry>, line: &mut Line<'_>) -> bool {
 }
 
 // Puts a copy of the entry in its place.
-fn copy(entry: &mut Option<Entry>, line: &mut Line<'_>) {
+fn copy(entry: &mut Option<Entry>, line: &mut CallLine<'_>) {
     let made = match entry {
         Some(entry) => copy_of(entry),
         None => return line.words.fail(Trouble::Bad("no entry")),
@@ -48,7 +48,7 @@ fn copy_of(entry: &Entry) -> Result<Entry, CapFault> {
     Ok(entry.clone()?)
 }
 
-fn make_entry(entry: &mut Option<Entry>, line: &mut Line<'_>) {
+fn make_entry(entry: &mut Option<Entry>, line: &mut CallLine<'_>) {
     let text = line.text();
     if keep(Entry::new(line.alloc, text.bytes()), entry, &mut line.got) {
         add_word("Ok", &mut line.got);
@@ -56,7 +56,7 @@ fn make_entry(entry: &mut Option<Entry>, line: &mut Line<'_>) {
 }
 
 // The lines `shown`, `is-bundled`, `names`, `unnamed`, `print`, and `flag N`, `number N` and `text N`.
-fn show(entry: &Entry, line: &mut Line<'_>) {
+fn show(entry: &Entry, line: &mut CallLine<'_>) {
     let (alloc, words, got) = (line.alloc, &mut line.words, &mut line.got);
     match line.name {
         "shown" => add_entry(entry, got),
@@ -79,7 +79,7 @@ fn show(entry: &Entry, line: &mut Line<'_>) {
 
 // The lines `set-flag N yes`, `set-number N NUMBER` and `set-text N TEXT`; without a last word a capability becomes
 // absent.
-fn set(entry: &mut Entry, line: &mut Line<'_>) {
+fn set(entry: &mut Entry, line: &mut CallLine<'_>) {
     let slot = read_slot(&mut line.words);
     let done = match line.name {
         "set-flag" => entry.set_flag(slot, line.words.next() == b"yes".as_slice()),

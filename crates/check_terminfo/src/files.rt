@@ -5,7 +5,7 @@ use check_harness::answers::{add_count, add_number, add_text};
 use check_harness::buffers::Buffer;
 use check_harness::checking::put;
 use check_harness::troubles::Trouble;
-use check_harness::words::Line;
+use check_harness::words::CallLine;
 use std::alloc::Global;
 use ti_binary::{BinFault, decode, decode_wide};
 use ti_caps::{Bytes, Entry, are_names};
@@ -13,7 +13,11 @@ use ti_compile::{TicFault, list};
 use ti_database::read_entry;
 
 /// The lines `encode` and `encode-named NAMES`, which write the file of an entry. Tells whether a line is one of them.
-pub fn answer_of_writing(entry: &Option<Entry>, file: &mut Vec<u8>, line: &mut Line<'_>) -> bool {
+pub fn answer_of_writing(
+    entry: &Option<Entry>,
+    file: &mut Vec<u8>,
+    line: &mut CallLine<'_>,
+) -> bool {
     if line.name != "encode" && line.name != "encode-named" {
         return false;
     }
@@ -35,7 +39,7 @@ fn encode(alloc: Global, entry: &Entry, file: &mut Vec<u8>, got: &mut Buffer) {
     }
 }
 
-fn encode_named(entry: &Entry, line: &mut Line<'_>) {
+fn encode_named(entry: &Entry, line: &mut CallLine<'_>) {
     let text = line.text();
     let names = text.bytes();
     if !are_names(names) {
@@ -51,13 +55,13 @@ fn encode_named(entry: &Entry, line: &mut Line<'_>) {
 }
 
 /// The line `file BYTES`.
-pub fn take_file(file: &mut Vec<u8>, line: &mut Line<'_>) {
+pub fn take_file(file: &mut Vec<u8>, line: &mut CallLine<'_>) {
     put(file, line.text().into_bytes());
     add_count(file.len() as u64, &mut line.got);
 }
 
 /// The lines `decode-wide`, `read-entry` and `list`, which leave all as it is. Tells whether a line is one of them.
-pub fn answer_of_file(file: &[u8], line: &mut Line<'_>) -> bool {
+pub fn answer_of_file(file: &[u8], line: &mut CallLine<'_>) -> bool {
     let (alloc, got) = (line.alloc, &mut line.got);
     match line.name {
         "decode-wide" => add_made(decode_wide(alloc, file), got, |decoded, got| {
@@ -77,7 +81,7 @@ pub fn answer_of_file(file: &[u8], line: &mut Line<'_>) -> bool {
 }
 
 /// The line `decode`, or `changed INDEX BYTE..`, which reads the file with bytes changed.
-pub fn decode_changed(file: &[u8], entry: &mut Option<Entry>, line: &mut Line<'_>) {
+pub fn decode_changed(file: &[u8], entry: &mut Option<Entry>, line: &mut CallLine<'_>) {
     let mut text = Buffer::new(line.alloc);
     text.extend(file);
     let words = &mut line.words;
@@ -108,7 +112,7 @@ fn add_decoded(alloc: Global, bytes: &[u8], entry: &mut Option<Entry>, got: &mut
 }
 
 /// The lines `file-cuts`, `wide-cuts` and `file-bytes BYTE..`. Tells whether a line is one of them.
-pub fn answer_of_changes(file: &[u8], line: &mut Line<'_>) -> bool {
+pub fn answer_of_changes(file: &[u8], line: &mut CallLine<'_>) -> bool {
     let counted = match line.name {
         "file-cuts" => count_truncated(line.alloc, file, false),
         "wide-cuts" => count_truncated(line.alloc, file, true),
@@ -140,7 +144,7 @@ fn count_truncated(alloc: Global, file: &[u8], is_wide: bool) -> Result<usize, T
 }
 
 // Sets each byte of a file in turn to each of those of a line, and counts the files that are sound.
-fn count_changed(file: &[u8], line: &mut Line<'_>) -> Result<usize, Trouble> {
+fn count_changed(file: &[u8], line: &mut CallLine<'_>) -> Result<usize, Trouble> {
     let mut text = Buffer::new(line.alloc);
     let mut count = 0usize;
     for _ in 0..u32::MAX {

@@ -3,7 +3,7 @@
 use crate::answers::add_made;
 use check_harness::answers::{add_count, add_text, add_word};
 use check_harness::troubles::Trouble;
-use check_harness::words::{Line, Words};
+use check_harness::words::{CallLine, Words};
 use program_input::read_input;
 use std::io;
 use std::io::{ErrorKind, Read};
@@ -34,7 +34,7 @@ impl Read for Pieces {
 }
 
 /// The lines `input COUNT EACH [BEFORE FAULT]` and `input-of TEXT`. Tells whether a line is one of them.
-pub fn answer_of_input(line: &mut Line<'_>) -> bool {
+pub fn answer_of_input(line: &mut CallLine<'_>) -> bool {
     match line.name {
         "input" => read_pieces(line),
         "input-of" => {
@@ -51,7 +51,7 @@ pub fn answer_of_input(line: &mut Line<'_>) -> bool {
     true
 }
 
-fn read_pieces(line: &mut Line<'_>) {
+fn read_pieces(line: &mut CallLine<'_>) {
     let words = &mut line.words;
     let mut pieces = Pieces {
         left: words.number() as usize,

@@ -3,12 +3,12 @@
 use crate::answers::{add_made, add_refusal};
 use check_harness::answers::{add_count, add_text, add_word};
 use check_harness::buffers::Buffer;
-use check_harness::words::Line;
+use check_harness::words::CallLine;
 use ti_param::{Program, RunFault, Vars, strip_padding};
 
 /// The lines `padding TEXT`, `read-program TEXT` and `measure TEXT`, which leave all as it is. Tells whether a line is
 /// one of them.
-pub fn answer_of_programs(line: &mut Line<'_>) -> bool {
+pub fn answer_of_programs(line: &mut CallLine<'_>) -> bool {
     if !matches!(line.name, "padding" | "read-program" | "measure") {
         return false;
     }
@@ -31,7 +31,7 @@ pub fn answer_of_programs(line: &mut Line<'_>) -> bool {
 }
 
 /// The line `program TEXT PARAMETER..`.
-pub fn run(vars: &mut Vars, line: &mut Line<'_>) {
+pub fn run(vars: &mut Vars, line: &mut CallLine<'_>) {
     let mut text = line.text();
     let (alloc, words, got) = (line.alloc, &mut line.words, &mut line.got);
     let mut params = [0; 9];

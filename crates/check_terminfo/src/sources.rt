@@ -7,7 +7,7 @@ use check_harness::answers::{add_any, add_count, add_number, add_text, add_word}
 use check_harness::buffers::{Buffer, are_same};
 use check_harness::checking::put;
 use check_harness::troubles::Trouble;
-use check_harness::words::{Line, Words};
+use check_harness::words::{CallLine, Words};
 use std::alloc::Global;
 use std::io::Write;
 use ti_caps::{Entry, Slot};
@@ -16,7 +16,7 @@ use ti_source::{Resolver, Source, SourceFault};
 
 /// The lines `source TEXT`, `chained COUNT USES LAST` and `source-cuts TEXT`, and those about the source that there is.
 /// Tells whether a line is one of them.
-pub fn answer_of_source(source: &mut Option<Source>, line: &mut Line<'_>) -> bool {
+pub fn answer_of_source(source: &mut Option<Source>, line: &mut CallLine<'_>) -> bool {
     match line.name {
         "source" => {
             let text = line.text();
@@ -43,7 +43,7 @@ pub fn answer_of_source(source: &mut Option<Source>, line: &mut Line<'_>) -> boo
 
 // Reads `COUNT USES LAST` and writes a source of COUNT entries, `e0`, `e1` and so on, each of which uses the next one
 // USES times; the last has the field LAST.
-fn chain(line: &mut Line<'_>) -> Buffer {
+fn chain(line: &mut CallLine<'_>) -> Buffer {
     let (count, uses) = (line.words.number(), line.words.number());
     let last = line.text();
     let mut text = Buffer::new(line.alloc);
@@ -70,7 +70,7 @@ fn write_uses(index: u32, uses: u32, text: &mut Buffer) {
     }
 }
 
-fn read_source(source: &mut Option<Source>, text: &Buffer, line: &mut Line<'_>) {
+fn read_source(source: &mut Option<Source>, text: &Buffer, line: &mut CallLine<'_>) {
     let (words, got) = (&mut line.words, &mut line.got);
     words.check(text.done());
     if keep(ti_source::read(line.alloc, text.bytes()), source, got) {
@@ -112,7 +112,7 @@ fn add_beginnings(alloc: Global, text: &[u8], got: &mut Buffer) -> Result<(), Tr
     Ok(())
 }
 
-fn take_notes(source: &mut Option<Source>, line: &mut Line<'_>) {
+fn take_notes(source: &mut Option<Source>, line: &mut CallLine<'_>) {
     match source.take() {
         Some(source) => add_notes(&source.into_notes(), &mut line.got),
         None => line.words.fail(Trouble::Bad("no source")),
@@ -120,7 +120,7 @@ fn take_notes(source: &mut Option<Source>, line: &mut Line<'_>) {
 }
 
 // The lines `listed`, `notes`, `resolver NAME..` and `compiler STEP..`.
-fn show(source: &Source, line: &mut Line<'_>) {
+fn show(source: &Source, line: &mut CallLine<'_>) {
     match line.name {
         "listed" => add_list(source, &mut line.got),
         "notes" => add_notes(source.notes(), &mut line.got),
@@ -137,7 +137,7 @@ pub fn add_list(source: &Source, got: &mut Buffer) {
 }
 
 // Resolves all names by one resolver.
-fn resolve_all(source: &Source, line: &mut Line<'_>) {
+fn resolve_all(source: &Source, line: &mut CallLine<'_>) {
     let mut resolver = Resolver::new(source);
     for _ in 0..u32::MAX {
         if line.words.is_at_end() {
@@ -158,7 +158,7 @@ fn resolve_next(alloc: Global, resolver: &mut Resolver<'_>, name: &[u8], got: &m
 }
 
 /// The line `resolve NAME`; what it resolves to is the entry then.
-pub fn resolve(source: &Option<Source>, entry: &mut Option<Entry>, line: &mut Line<'_>) {
+pub fn resolve(source: &Option<Source>, entry: &mut Option<Entry>, line: &mut CallLine<'_>) {
     let text = line.text();
     let Some(source) = source else {
         line.words.fail(Trouble::Bad("no source"));
@@ -171,7 +171,7 @@ pub fn resolve(source: &Option<Source>, entry: &mut Option<Entry>, line: &mut Li
 }
 
 // Compiles entries one after another by one compiler.
-fn compile_all(source: &Source, line: &mut Line<'_>) {
+fn compile_all(source: &Source, line: &mut CallLine<'_>) {
     let mut compiler = EntryCompiler::new(source);
     for _ in 0..u32::MAX {
         if line.words.is_at_end() {
@@ -210,7 +210,7 @@ fn add_next(compiled: &Option<CompiledEntry>, got: &mut Buffer) {
 
 /// The lines `string TEXT`, `decimal TEXT` and `compile SOURCE`, which leave all as it is. Tells whether a line is one
 /// of them.
-pub fn answer_of_meaning(line: &mut Line<'_>) -> bool {
+pub fn answer_of_meaning(line: &mut CallLine<'_>) -> bool {
     match line.name {
         "string" => mean([b"t,\n\tcr=", b""], line),
         "decimal" => mean([b"t,\n\tcols#", b","], line),
@@ -225,7 +225,7 @@ pub fn answer_of_meaning(line: &mut Line<'_>) -> bool {
 }
 
 // What a text means between two parts of a source: the text or the number that its entry `t` has then.
-fn mean(parts: [&[u8]; 2], line: &mut Line<'_>) {
+fn mean(parts: [&[u8]; 2], line: &mut CallLine<'_>) {
     let text = line.text();
     let mut source = Buffer::new(line.alloc);
     source.extend(parts[0]);

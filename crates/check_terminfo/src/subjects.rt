@@ -71,7 +71,7 @@ use check_harness::answers::{add_name, add_text, add_word};
 use check_harness::buffers::Buffer;
 use check_harness::checking::Subject;
 use check_harness::troubles::Trouble;
-use check_harness::words::{Line, Words};
+use check_harness::words::{CallLine, Words};
 use std::alloc::Global;
 use ti_caps::Entry;
 use ti_database::MemoryFiles;
@@ -107,7 +107,7 @@ impl Subject for TerminfoSubject {
     }
 
     fn answer(&mut self, words: &mut Words<'_>, got: &mut Buffer) {
-        let mut line = Line::new(self.alloc, *words, got.take(self.alloc));
+        let mut line = CallLine::new(self.alloc, *words, got.take(self.alloc));
         if !self.is_answered(&mut line) && !answer_of_values(&mut line) {
             line.words.fail(Trouble::Bad("no such line"));
         }
@@ -135,7 +135,7 @@ impl Subject for TerminfoSubject {
 
 impl TerminfoSubject {
     // Makes the call of a line that goes on with what is there. Tells whether a line is one of them.
-    fn is_answered(&mut self, line: &mut Line<'_>) -> bool {
+    fn is_answered(&mut self, line: &mut CallLine<'_>) -> bool {
         match line.name {
             "resolve" => resolve(&self.source, &mut self.entry, line),
             "file" => take_file(&mut self.file, line),
@@ -152,7 +152,7 @@ impl TerminfoSubject {
     }
 
     // Makes the call of a line about the entry, the source, the file or the files in which names are looked up.
-    fn is_answered_of_one(&mut self, line: &mut Line<'_>) -> bool {
+    fn is_answered_of_one(&mut self, line: &mut CallLine<'_>) -> bool {
         answer_of_entry(&mut self.entry, line)
             || answer_of_source(&mut self.source, line)
             || answer_of_writing(&self.entry, &mut self.file, line)
@@ -164,7 +164,7 @@ impl TerminfoSubject {
 }
 
 // Makes the call of a line that leaves all as it is. Tells whether a line is one of them.
-fn answer_of_values(line: &mut Line<'_>) -> bool {
+fn answer_of_values(line: &mut CallLine<'_>) -> bool {
     answer_of_table(line)
         || answer_of_meaning(line)
         || answer_of_programs(line)

@@ -4,12 +4,12 @@ use crate::answers::read_slot;
 use check_harness::answers::{add_flag, add_name, add_number, add_text, add_word};
 use check_harness::buffers::Buffer;
 use check_harness::troubles::Trouble;
-use check_harness::words::{Line, Words};
+use check_harness::words::{CallLine, Words};
 use ti_caps::{Kind, Slot, are_names, find_name, first_name, name_of};
 
 /// The lines `find NAME`, `name-of KIND POSITION`, `table KIND POSITION NAME..`, `named KIND`, `are-names TEXT` and
 /// `first-name TEXT`. Tells whether a line is one of them.
-pub fn answer_of_table(line: &mut Line<'_>) -> bool {
+pub fn answer_of_table(line: &mut CallLine<'_>) -> bool {
     match line.name {
         "name-of" | "table" | "named" => {
             answer_of_kind(line.name, &mut line.words, &mut line.got);

@@ -4,7 +4,7 @@ use crate::answers::{add_entry, add_made, add_refusal};
 use check_harness::answers::{add_count, add_flag, add_name, add_number, add_text, add_word};
 use check_harness::buffers::Buffer;
 use check_harness::checking::put;
-use check_harness::words::Line;
+use check_harness::words::CallLine;
 use std::alloc::Global;
 use ti_caps::Bytes;
 use ti_compile::TicFault;
@@ -16,7 +16,7 @@ use ti_source::{Notes, Source, SourceFault, read_apart, resolve};
 
 /// The lines `whole SOURCE`, `decode-whole`, `encode-whole`, `print-whole` and `is-extended-name TEXT`. Tells whether a
 /// line is one of them.
-pub fn answer_of_whole(file: &mut Vec<u8>, line: &mut Line<'_>) -> bool {
+pub fn answer_of_whole(file: &mut Vec<u8>, line: &mut CallLine<'_>) -> bool {
     if matches!(line.name, "whole" | "is-extended-name") {
         let text = line.text();
         if line.name == "whole" {

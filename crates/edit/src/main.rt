@@ -19,7 +19,7 @@ use clap::error::ErrorKind;
 use edit_screen::{EditFailure, Editor, edit_by_script, edit_on_terminal, rescue};
 use std::process::ExitCode;
 use std::{env, io};
-use words::Task;
+use words::EditArguments;
 
 fn main(rt: HostRuntime) -> ExitCode {
     let status = match words_given(&rt) {
@@ -78,7 +78,7 @@ fn answered(rt: &HostRuntime, error: &clap::Error) -> u8 {
     }
 }
 
-fn run(rt: &HostRuntime, task: Task<'_>) -> u8 {
+fn run(rt: &HostRuntime, task: EditArguments<'_>) -> u8 {
     match edit_file(rt, task) {
         Ok(()) => 0,
         Err(EditFailure::File(fault)) => {
@@ -89,7 +89,7 @@ fn run(rt: &HostRuntime, task: Task<'_>) -> u8 {
     }
 }
 
-fn edit_file(rt: &HostRuntime, task: Task<'_>) -> Result<(), EditFailure> {
+fn edit_file(rt: &HostRuntime, task: EditArguments<'_>) -> Result<(), EditFailure> {
     let mut editor = Editor::open(rt, task.file)?;
     editor.begin_at(task.line);
     if let Some(columns) = task.wrap {
@@ -99,7 +99,7 @@ fn edit_file(rt: &HostRuntime, task: Task<'_>) -> Result<(), EditFailure> {
 }
 
 // Runs the editor, by a script or on the terminal.
-fn edit(rt: &HostRuntime, task: Task<'_>, editor: &mut Editor) -> Result<(), EditFailure> {
+fn edit(rt: &HostRuntime, task: EditArguments<'_>, editor: &mut Editor) -> Result<(), EditFailure> {
     if task.script {
         return edit_by_script(rt, task.file, task.charset(), editor);
     }

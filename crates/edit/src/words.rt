@@ -7,7 +7,7 @@ use std::alloc::{AllocError, Global};
 
 /// What the command line asks for.
 #[derive(Clone, Copy)]
-pub(crate) struct Task<'a> {
+pub(crate) struct EditArguments<'a> {
     /// The file to edit.
     pub(crate) file: &'a str,
     /// The bundled entry is used, whatever `TERM` names.
@@ -22,7 +22,7 @@ pub(crate) struct Task<'a> {
     pub(crate) wrap: Option<usize>,
 }
 
-impl Task<'_> {
+impl EditArguments<'_> {
     /// The charset of the emulated terminal of a script.
     pub(crate) fn charset(&self) -> Charset {
         if self.utf8 {
@@ -115,12 +115,12 @@ fn file<'a>(alloc: Global) -> Arg<'a> {
 }
 
 /// What a parsed command line asks for; `None` if lines are to be wrapped at what is not such a column.
-pub(crate) fn task_of<'a>(matches: &ArgMatches<'a>, line: usize) -> Option<Task<'a>> {
+pub(crate) fn task_of<'a>(matches: &ArgMatches<'a>, line: usize) -> Option<EditArguments<'a>> {
     let wrap = match matches.get_str("wrap") {
         Some(columns) => Some(column_of(columns)?),
         None => None,
     };
-    Some(Task {
+    Some(EditArguments {
         file: matches.get_str("file")?,
         bundled: matches.get_flag("bundled"),
         utf8: matches.get_flag("utf8"),

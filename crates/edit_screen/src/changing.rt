@@ -4,12 +4,12 @@ use crate::editor::Editor;
 use crate::history::{Change, LINE_FEED, Step, is_up_to, place_after};
 use crate::messages::Message;
 use crate::view::{is_blank, last_break};
-use edit_text::{EditFault, Part, Place, first_part};
+use edit_text::{EditFault, TextPart, TextPlace, first_part};
 
 impl Editor {
     /// Inserts a character or a byte at the cursor; a line feed splits the line. A line that becomes too long is broken
     /// before its last word, where lines are to be wrapped.
-    pub(crate) fn insert(&mut self, part: Part) {
+    pub(crate) fn insert(&mut self, part: TextPart) {
         if self.insert_at(self.cursor, part, Step::Word) && !is_blank(part) {
             self.wrap();
             self.history.settle(Change::Inserted(part), self.cursor);
@@ -17,7 +17,7 @@ impl Editor {
     }
 
     /// Deletes what is at a place, if anything, and moves the cursor there.
-    pub(crate) fn delete(&mut self, place: Place) {
+    pub(crate) fn delete(&mut self, place: TextPlace) {
         if let Some(part) = self.text.part_at(place) {
             self.delete_at(place, part, Step::Word);
         }
@@ -121,17 +121,17 @@ impl Editor {
     }
 
     // Inserts a part at a place, and moves the cursor after it. Answers whether it was done.
-    fn insert_at(&mut self, place: Place, part: Part, step: Step) -> bool {
+    fn insert_at(&mut self, place: TextPlace, part: TextPart, step: Step) -> bool {
         self.make(place, Change::Inserted(part), step)
     }
 
     // Deletes the part that is at a place, and moves the cursor there. Answers whether it was done.
-    fn delete_at(&mut self, place: Place, part: Part, step: Step) -> bool {
+    fn delete_at(&mut self, place: TextPlace, part: TextPart, step: Step) -> bool {
         self.make(place, Change::Deleted(part), step)
     }
 
     // Makes an edit, so that it can be undone. Answers whether it was made, and says why if it was not.
-    fn make(&mut self, place: Place, change: Change, step: Step) -> bool {
+    fn make(&mut self, place: TextPlace, change: Change, step: Step) -> bool {
         if self.history.add(place, change, step).is_err() {
             self.message = Message::NoMemory;
             return false;
@@ -146,7 +146,7 @@ impl Editor {
 
     // Makes an edit that the history has, and moves the cursor to where it ends. If it cannot be made, the history
     // loses it.
-    fn is_made(&mut self, place: Place, change: Change) -> bool {
+    fn is_made(&mut self, place: TextPlace, change: Change) -> bool {
         match self.change_text(place, change) {
             Ok(end) => {
                 self.go_to(end);
@@ -160,7 +160,7 @@ impl Editor {
     }
 
     // Changes the text, and gives the place where the edit ends.
-    fn change_text(&mut self, place: Place, change: Change) -> Result<Place, EditFault> {
+    fn change_text(&mut self, place: TextPlace, change: Change) -> Result<TextPlace, EditFault> {
         match change {
             Change::Inserted(part) => {
                 if part == LINE_FEED {
@@ -200,18 +200,18 @@ impl Editor {
         let mut step = Step::New;
         let mut column = length;
         for _ in 0..length {
-            let part = match self.text.part_before(Place { line, column }) {
+            let part = match self.text.part_before(TextPlace { line, column }) {
                 Some(part) if column > 0 => part,
                 _ => break,
             };
             column = column.saturating_sub(part.len());
-            if !self.delete_at(Place { line, column }, part, step) {
+            if !self.delete_at(TextPlace { line, column }, part, step) {
                 break;
             }
             step = Step::Same;
         }
         if has_end && self.text.line_length(line) == 0 {
-            self.delete_at(Place { line, column: 0 }, LINE_FEED, step);
+            self.delete_at(TextPlace { line, column: 0 }, LINE_FEED, step);
         }
         self.history.end_step();
     }
@@ -224,18 +224,18 @@ impl Editor {
         if self.column() <= most {
             return;
         }
-        let Place { line, column } = self.cursor;
+        let TextPlace { line, column } = self.cursor;
         let Some(blank) = last_break(self.line(), column, most) else {
             return;
         };
-        self.break_at(Place {
+        self.break_at(TextPlace {
             line,
             column: blank,
         });
     }
 
     // Puts a line's end in the place of a blank before the cursor.
-    fn break_at(&mut self, blank: Place) {
+    fn break_at(&mut self, blank: TextPlace) {
         let left = self
             .cursor
             .column
@@ -245,7 +245,7 @@ impl Editor {
         };
         let start = place_after(blank, LINE_FEED);
         if self.insert_at(blank, LINE_FEED, Step::Same) && self.delete_at(start, part, Step::Same) {
-            self.go_to(Place {
+            self.go_to(TextPlace {
                 line: start.line,
                 column: left,
             });

@@ -3,7 +3,7 @@
 use crate::history::LINE_FEED;
 use crate::sequences::Sequence;
 use curses::{Key, keys};
-use edit_text::Part;
+use edit_text::TextPart;
 
 /// Where the cursor goes.
 #[derive(Clone, Copy)]
@@ -24,7 +24,7 @@ pub(crate) enum Command {
     // The key has no command.
     Unknown,
     // A line feed splits the line.
-    Insert(Part),
+    Insert(TextPart),
     // The next byte is inserted, whatever it is.
     InsertNext,
     DeleteBefore,
@@ -76,7 +76,7 @@ fn command_of_byte(byte: u8) -> Command {
     match byte {
         8 | 127 => Command::DeleteBefore,
         10 | 13 => Command::Insert(LINE_FEED),
-        9 | 32..=126 | 128..=255 => Command::Insert(Part::Byte(byte)),
+        9 | 32..=126 | 128..=255 => Command::Insert(TextPart::Byte(byte)),
         _ => command_of_control(byte ^ 64),
     }
 }

@@ -6,7 +6,7 @@ use crate::view::{
     BLANKS, column_of, cut_part, first_shown, form_of, parts_before, printable_length, width_at,
 };
 use curses::{Attrs, Screen, Size, Win};
-use edit_text::Part;
+use edit_text::TextPart;
 
 /// The colours of the last row, as a pair.
 const STATUS_PAIR: u32 = 1;
@@ -135,13 +135,13 @@ fn draw_bytes(screen: &mut Screen, bytes: &[u8], room: &mut Room) {
 }
 
 // Draws a part that is not a printable character of ASCII, if there is room.
-fn draw_part(screen: &mut Screen, part: Part, room: &mut Room) {
+fn draw_part(screen: &mut Screen, part: TextPart, room: &mut Room) {
     if room.left == 0 {
         return;
     }
     match part {
-        Part::Character(character) => draw_character(screen, character, room),
-        Part::Byte(byte) => draw_form(screen, byte, room),
+        TextPart::Character(character) => draw_character(screen, character, room),
+        TextPart::Byte(byte) => draw_form(screen, byte, room),
     }
 }
 
@@ -159,7 +159,7 @@ fn draw_character(screen: &mut Screen, character: char, room: &mut Room) {
 // Draws the form of a byte that is not printable in bold, to tell it from the same characters in the text. A tab is
 // blanks.
 fn draw_form(screen: &mut Screen, byte: u8, room: &mut Room) {
-    let width = width_at(room.column, Part::Byte(byte));
+    let width = width_at(room.column, TextPart::Byte(byte));
     if byte == b'\t' {
         draw_piece(screen, BLANKS.get(..width).unwrap_or(&BLANKS), room);
         return;

@@ -10,7 +10,7 @@ use crate::questions::{Typed, typed_at, typed_character_at};
 use crate::sequences::Sequence;
 use crate::view::column_of;
 use curses::Key;
-use edit_text::{Part, Place, Text};
+use edit_text::{Text, TextPart, TextPlace};
 use std::alloc::Global;
 
 /// How the next key is read.
@@ -50,7 +50,7 @@ pub struct Editor {
     /// The file's name, as it is shown.
     pub(crate) name: Vec<u8>,
     pub(crate) text: Text,
-    pub(crate) cursor: Place,
+    pub(crate) cursor: TextPlace,
     /// The column that the cursor keeps to while it goes up and down.
     pub(crate) goal: usize,
     /// The first line that is shown.
@@ -104,7 +104,7 @@ impl Editor {
         Editor {
             name,
             text,
-            cursor: Place { line: 0, column: 0 },
+            cursor: TextPlace { line: 0, column: 0 },
             goal: 0,
             top: 0,
             page: 1,
@@ -188,7 +188,7 @@ impl Editor {
                 return request;
             }
         }
-        self.press_command(Command::Insert(Part::Character(character)))
+        self.press_command(Command::Insert(TextPart::Character(character)))
     }
 
     /// Whether a sequence of bytes has begun that are not text; a pause ends it.
@@ -206,7 +206,7 @@ impl Editor {
         self.message = Message::Nothing;
         self.mode = Mode::Text;
         self.is_cutting = false;
-        self.insert(Part::Byte(byte));
+        self.insert(TextPart::Byte(byte));
     }
 
     // Reads a key of what a question asks for, if there is one; enter ends it. `None` if it was not one: any other key

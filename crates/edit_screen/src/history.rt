@@ -1,17 +1,17 @@
 //! What was done to the text, so that it is undone, and done again, by words.
 
 use crate::view::is_blank;
-use edit_text::{Part, Place};
+use edit_text::{TextPart, TextPlace};
 use std::alloc::{AllocError, Global};
 
 /// What ends a line.
-pub(crate) const LINE_FEED: Part = Part::Byte(b'\n');
+pub(crate) const LINE_FEED: TextPart = TextPart::Byte(b'\n');
 
 /// What an edit did at a place. A line feed that is inserted splits the line; one that is deleted joins the next line.
 #[derive(Clone, Copy)]
 pub(crate) enum Change {
-    Inserted(Part),
-    Deleted(Part),
+    Inserted(TextPart),
+    Deleted(TextPart),
 }
 
 impl Change {
@@ -38,7 +38,7 @@ pub(crate) enum Step {
 /// An edit that was made.
 #[derive(Clone, Copy)]
 pub(crate) struct Made {
-    pub(crate) place: Place,
+    pub(crate) place: TextPlace,
     pub(crate) change: Change,
     /// Whether a step begins with it.
     pub(crate) begins: bool,
@@ -50,7 +50,7 @@ pub(crate) struct History {
     made: Vec<Made>,
     undone: Vec<Made>,
     // What was typed or deleted last, and where that ended, if the same word may go on.
-    last_change: Option<(Change, Place)>,
+    last_change: Option<(Change, TextPlace)>,
 }
 
 impl History {
@@ -66,7 +66,7 @@ impl History {
     /// Adds an edit before it is made. Fails only when memory runs out.
     pub(crate) fn add(
         &mut self,
-        place: Place,
+        place: TextPlace,
         change: Change,
         step: Step,
     ) -> Result<(), AllocError> {
@@ -91,7 +91,7 @@ impl History {
     }
 
     /// An edit was made that ended at a place: what was undone before it cannot be done again.
-    pub(crate) fn settle(&mut self, change: Change, end: Place) {
+    pub(crate) fn settle(&mut self, change: Change, end: TextPlace) {
         self.undone.clear();
         self.last_change = Some((change, end));
     }
@@ -136,7 +136,7 @@ impl History {
     }
 
     // Whether an edit goes on typing, or deleting, the word that the last one was in.
-    fn goes_on(&self, place: Place, change: Change) -> bool {
+    fn goes_on(&self, place: TextPlace, change: Change) -> bool {
         match (self.last_change, change) {
             (Some((Change::Inserted(before), end)), Change::Inserted(part)) => {
                 !begins_word(before, part) && place == end
@@ -150,25 +150,25 @@ impl History {
 }
 
 // Whether a word begins with a part after another.
-fn begins_word(before: Part, part: Part) -> bool {
+fn begins_word(before: TextPart, part: TextPart) -> bool {
     is_blank(before) && !is_blank(part)
 }
 
 /// The place after a part that is at a place.
-pub(crate) fn place_after(place: Place, part: Part) -> Place {
+pub(crate) fn place_after(place: TextPlace, part: TextPart) -> TextPlace {
     if part == LINE_FEED {
-        return Place {
+        return TextPlace {
             line: place.line.saturating_add(1),
             column: 0,
         };
     }
-    Place {
+    TextPlace {
         line: place.line,
         column: place.column.saturating_add(part.len()),
     }
 }
 
 /// Whether a place is another one, or before it.
-pub(crate) fn is_up_to(place: Place, other: Place) -> bool {
+pub(crate) fn is_up_to(place: TextPlace, other: TextPlace) -> bool {
     place.line < other.line || place.line == other.line && place.column <= other.column
 }

@@ -4,7 +4,7 @@ use crate::commands::Motion;
 use crate::editor::Editor;
 use crate::history::place_after;
 use crate::view::bytes_before;
-use edit_text::Place;
+use edit_text::TextPlace;
 
 impl Editor {
     /// Moves the cursor to a line, counted from 1, or to the last.
@@ -14,7 +14,7 @@ impl Editor {
 
     /// Moves the cursor to a place, whose column it keeps to from then on. It is never within a character: it goes to
     /// the beginning of one that the place is within.
-    pub(crate) fn go_to(&mut self, place: Place) {
+    pub(crate) fn go_to(&mut self, place: TextPlace) {
         self.cursor = self.text.part_start(place);
         self.goal = self.column();
     }
@@ -44,10 +44,10 @@ impl Editor {
             }
             Motion::Left => self.go_to_some(self.place_before()),
             Motion::Right => self.go_to_some(self.place_after()),
-            Motion::LineStart => self.go_to(Place { line, column: 0 }),
+            Motion::LineStart => self.go_to(TextPlace { line, column: 0 }),
             Motion::LineEnd => {
                 let column = self.line().len();
-                self.go_to(Place { line, column });
+                self.go_to(TextPlace { line, column });
             }
         }
     }
@@ -58,27 +58,27 @@ impl Editor {
         self.go_to_line(line);
     }
 
-    fn go_to_some(&mut self, place: Option<Place>) {
+    fn go_to_some(&mut self, place: Option<TextPlace>) {
         if let Some(place) = place {
             self.go_to(place);
         }
     }
 
     /// The place before the cursor: `None` at the beginning of the text.
-    pub(crate) fn place_before(&self) -> Option<Place> {
+    pub(crate) fn place_before(&self) -> Option<TextPlace> {
         let part = self.text.part_before(self.cursor)?;
-        let Place { line, column } = self.cursor;
+        let TextPlace { line, column } = self.cursor;
         if column > 0 {
             let column = column.saturating_sub(part.len());
-            return Some(Place { line, column });
+            return Some(TextPlace { line, column });
         }
         let line = line.checked_sub(1)?;
         let column = self.text.line_length(line);
-        Some(Place { line, column })
+        Some(TextPlace { line, column })
     }
 
     // The place after the cursor: `None` at the end of the text.
-    fn place_after(&self) -> Option<Place> {
+    fn place_after(&self) -> Option<TextPlace> {
         let part = self.text.part_at(self.cursor)?;
         Some(place_after(self.cursor, part))
     }

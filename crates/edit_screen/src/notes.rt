@@ -6,7 +6,7 @@
 //! and its end before the next change.
 
 use crate::history::{Change, place_after};
-use edit_text::{Part, Place};
+use edit_text::{TextPart, TextPlace};
 use std::alloc::Global;
 
 /// Changes that were made one after another.
@@ -14,9 +14,9 @@ use std::alloc::Global;
 pub(crate) struct Notes {
     lines: Vec<u8>,
     // Where that ends which the last line inserts, if it goes on: its own end is missing, here or in the journal.
-    inserted_to: Option<Place>,
+    inserted_to: Option<TextPlace>,
     // What was deleted last, and may go on: it is no line yet.
-    deleted: Option<(Place, usize)>,
+    deleted: Option<(TextPlace, usize)>,
     // How many changes there were since it was last tried to keep them.
     count: u32,
     // Whether all changes are here, or were.
@@ -36,7 +36,7 @@ impl Notes {
     }
 
     /// Notes a change at a place. Where memory runs out, the notes are not whole from then on.
-    pub(crate) fn note(&mut self, place: Place, change: Change) {
+    pub(crate) fn note(&mut self, place: TextPlace, change: Change) {
         self.count = self.count.saturating_add(1);
         match change {
             Change::Inserted(part) => self.note_inserted(place, part),
@@ -94,25 +94,25 @@ impl Notes {
         self.is_whole = true;
     }
 
-    fn note_inserted(&mut self, place: Place, part: Part) {
+    fn note_inserted(&mut self, place: TextPlace, part: TextPart) {
         if self.inserted_to != Some(place) {
             self.end_line();
             self.begin_line(b"+ ", place);
         }
         match part {
-            Part::Character(character) => {
+            TextPart::Character(character) => {
                 let mut bytes = [0; 4];
                 self.add(character.encode_utf8(&mut bytes).as_bytes());
             }
-            Part::Byte(b'\n') => self.add(b"\\n"),
-            Part::Byte(b'\\') => self.add(b"\\\\"),
-            Part::Byte(byte) => self.add(&[byte]),
+            TextPart::Byte(b'\n') => self.add(b"\\n"),
+            TextPart::Byte(b'\\') => self.add(b"\\\\"),
+            TextPart::Byte(byte) => self.add(&[byte]),
         }
         self.inserted_to = Some(place_after(place, part));
     }
 
     // What is deleted one after another, at one place or before it, is one line.
-    fn note_deleted(&mut self, place: Place, part: Part) {
+    fn note_deleted(&mut self, place: TextPlace, part: TextPart) {
         let before = self.deleted_at(place, place_after(place, part));
         if before == 0 {
             self.end_line();
@@ -121,14 +121,14 @@ impl Notes {
     }
 
     // How many bytes were deleted last, if that was at one of two places.
-    fn deleted_at(&self, place: Place, other: Place) -> usize {
+    fn deleted_at(&self, place: TextPlace, other: TextPlace) -> usize {
         match self.deleted {
             Some((last, count)) if last == place || last == other => count,
             _ => 0,
         }
     }
 
-    fn begin_line(&mut self, kind: &[u8], place: Place) {
+    fn begin_line(&mut self, kind: &[u8], place: TextPlace) {
         self.add(kind);
         self.add_number(place.line);
         self.add(b" ");

@@ -3,7 +3,7 @@
 use crate::files::Seen;
 use crate::history::place_after;
 use crate::journals::{NO_FILE, TITLE};
-use edit_text::{EditFault, Part, Place, Text};
+use edit_text::{EditFault, Text, TextPart, TextPlace};
 
 /// Why the changes of a journal were not all made again.
 #[derive(Clone, Copy)]
@@ -65,11 +65,11 @@ fn replay_line(text: &mut Text, line: &[u8]) -> Result<(), Trouble> {
 }
 
 // What a line says: its kind, its place, and the rest.
-fn change_of(line: &[u8]) -> Option<(&[u8], Place, &[u8])> {
+fn change_of(line: &[u8]) -> Option<(&[u8], TextPlace, &[u8])> {
     let (kind, rest) = cut_at(line, b' ')?;
     let (line, rest) = cut_at(rest, b' ')?;
     let (column, rest) = cut_at(rest, b' ')?;
-    let place = Place {
+    let place = TextPlace {
         line: number_of(line)?,
         column: number_of(column)?,
     };
@@ -87,14 +87,14 @@ fn number_of(word: &[u8]) -> Option<usize> {
 }
 
 // Inserts bytes from a place on, which are written as in a line.
-fn insert(text: &mut Text, place: Place, bytes: &[u8]) -> Result<(), Trouble> {
+fn insert(text: &mut Text, place: TextPlace, bytes: &[u8]) -> Result<(), Trouble> {
     let mut place = place;
     let mut is_marked = false;
     for &byte in bytes {
         match unmarked(byte, is_marked)? {
             Some(byte) => {
                 insert_byte(text, place, byte)?;
-                place = place_after(place, Part::Byte(byte));
+                place = place_after(place, TextPart::Byte(byte));
                 is_marked = false;
             }
             None => is_marked = true,
@@ -114,17 +114,17 @@ fn unmarked(byte: u8, is_marked: bool) -> Result<Option<u8>, Trouble> {
     }
 }
 
-fn insert_byte(text: &mut Text, place: Place, byte: u8) -> Result<(), Trouble> {
+fn insert_byte(text: &mut Text, place: TextPlace, byte: u8) -> Result<(), Trouble> {
     if byte == b'\n' {
         text.split(place)?;
     } else {
-        text.insert(place, Part::Byte(byte))?;
+        text.insert(place, TextPart::Byte(byte))?;
     }
     Ok(())
 }
 
 // Deletes so many bytes from a place on. A character that they end within was two parts when it was changed.
-fn delete(text: &mut Text, place: Place, count: usize) -> Result<(), Trouble> {
+fn delete(text: &mut Text, place: TextPlace, count: usize) -> Result<(), Trouble> {
     let mut left = count;
     for _ in 0..count {
         if left == 0 {
@@ -142,16 +142,16 @@ fn delete(text: &mut Text, place: Place, count: usize) -> Result<(), Trouble> {
 }
 
 // Inserts the bytes of a part from the nth on.
-fn put_back(text: &mut Text, place: Place, part: Part, from: usize) -> Result<(), Trouble> {
-    let Part::Character(character) = part else {
+fn put_back(text: &mut Text, place: TextPlace, part: TextPart, from: usize) -> Result<(), Trouble> {
+    let TextPart::Character(character) = part else {
         return Ok(());
     };
     let mut buffer = [0; 4];
     let bytes = character.encode_utf8(&mut buffer).as_bytes();
     let mut place = place;
     for &byte in bytes.get(from..).unwrap_or(&[]) {
-        text.insert(place, Part::Byte(byte))?;
-        place = place_after(place, Part::Byte(byte));
+        text.insert(place, TextPart::Byte(byte))?;
+        place = place_after(place, TextPart::Byte(byte));
     }
     Ok(())
 }

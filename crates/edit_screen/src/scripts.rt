@@ -17,7 +17,7 @@ use terminal::{Event, Keyboard, Program};
 
 // A line of a script.
 #[derive(Clone, Copy)]
-enum Line<'a> {
+enum ScriptLine<'a> {
     Size(Size),
     Type(&'a str),
     Bytes(&'a str),
@@ -43,7 +43,7 @@ struct Emulated {
 
 impl<'a> Script<'a> {
     // The next line: `None` at the end.
-    fn next_line(&mut self) -> Result<Option<Line<'a>>, EditFailure> {
+    fn next_line(&mut self) -> Result<Option<ScriptLine<'a>>, EditFailure> {
         if self.rest.is_empty() {
             return Ok(None);
         }
@@ -65,17 +65,17 @@ impl<'a> Script<'a> {
 }
 
 // What a line says; `None` if it is not a command.
-fn line_of(line: &str) -> Option<Line<'_>> {
+fn line_of(line: &str) -> Option<ScriptLine<'_>> {
     match line {
-        "idle" => return Some(Line::Idle),
-        "show" => return Some(Line::Show),
+        "idle" => return Some(ScriptLine::Idle),
+        "show" => return Some(ScriptLine::Show),
         _ => {}
     }
     let (word, words) = line.split_once(' ')?;
     match word {
-        "type" => Some(Line::Type(words)),
-        "key" => Some(Line::Bytes(words)),
-        "size" => Some(Line::Size(size_of(words)?)),
+        "type" => Some(ScriptLine::Type(words)),
+        "key" => Some(ScriptLine::Bytes(words)),
+        "size" => Some(ScriptLine::Size(size_of(words)?)),
         _ => None,
     }
 }
@@ -124,7 +124,7 @@ fn run_script(
         rest: script,
         number: 0,
     };
-    let Some(Line::Size(first)) = script.next_line()? else {
+    let Some(ScriptLine::Size(first)) = script.next_line()? else {
         return Err(EditFailure::BadLine(1));
     };
     let mut size = Some(first);
@@ -177,15 +177,15 @@ fn play(
             return Ok(None);
         };
         match line {
-            Line::Size(size) => return Ok(Some(size)),
-            Line::Type(text) => type_bytes(emulated, session, text.as_bytes()),
-            Line::Bytes(words) => {
+            ScriptLine::Size(size) => return Ok(Some(size)),
+            ScriptLine::Type(text) => type_bytes(emulated, session, text.as_bytes()),
+            ScriptLine::Bytes(words) => {
                 if !press_bytes(emulated, session, words) {
                     return Err(script.fault());
                 }
             }
-            Line::Idle => pass_time(emulated, session),
-            Line::Show => show(emulated, session)?,
+            ScriptLine::Idle => pass_time(emulated, session),
+            ScriptLine::Show => show(emulated, session)?,
         }
     }
     Ok(None)

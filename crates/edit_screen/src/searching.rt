@@ -3,7 +3,7 @@
 use crate::editor::{Editor, Mode};
 use crate::history::is_up_to;
 use crate::messages::Message;
-use edit_text::Place;
+use edit_text::TextPlace;
 
 impl Editor {
     /// Asks what is to be found.
@@ -38,7 +38,7 @@ impl Editor {
             Some(part) => part.len(),
             None => 1,
         };
-        let after = Place {
+        let after = TextPlace {
             line: start.line,
             column: start.column.saturating_add(length),
         };

@@ -1,6 +1,6 @@
 //! What is seen of a line: how each part of it is shown, and the columns that it needs.
 
-use edit_text::{Part, first_part};
+use edit_text::{TextPart, first_part};
 
 /// A tab reaches to the next column that is a multiple of this.
 const TAB: usize = 8;
@@ -15,12 +15,12 @@ pub(crate) fn is_printable(byte: u8) -> bool {
 
 /// How many columns a part of a line needs that is shown from a column on, which is counted from the line's first. A
 /// character of one column is shown as itself.
-pub(crate) fn width_at(column: usize, part: Part) -> usize {
+pub(crate) fn width_at(column: usize, part: TextPart) -> usize {
     match part {
-        Part::Character(_) | Part::Byte(32..=126) => 1,
-        Part::Byte(b'\t') => TAB - column % TAB,
-        Part::Byte(128..=255) => 4,
-        Part::Byte(_) => 2,
+        TextPart::Character(_) | TextPart::Byte(32..=126) => 1,
+        TextPart::Byte(b'\t') => TAB - column % TAB,
+        TextPart::Byte(128..=255) => 4,
+        TextPart::Byte(_) => 2,
     }
 }
 
@@ -47,7 +47,7 @@ pub(crate) fn printable_length(text: &[u8]) -> usize {
 }
 
 /// The part that bytes begin with, and the bytes after it.
-pub(crate) fn cut_part(bytes: &[u8]) -> Option<(Part, &[u8])> {
+pub(crate) fn cut_part(bytes: &[u8]) -> Option<(TextPart, &[u8])> {
     let part = first_part(bytes)?;
     Some((part, bytes.get(part.len()..).unwrap_or(&[])))
 }
@@ -112,8 +112,8 @@ pub(crate) fn first_shown(cursor: usize, columns: usize) -> usize {
 }
 
 /// Whether a part stands between words: a blank, a tab, or a line feed.
-pub(crate) fn is_blank(part: Part) -> bool {
-    matches!(part, Part::Byte(b' ' | b'\t' | b'\n'))
+pub(crate) fn is_blank(part: TextPart) -> bool {
+    matches!(part, TextPart::Byte(b' ' | b'\t' | b'\n'))
 }
 
 /// The last blank of a line, at a column up to `most` and after something else, that is before the byte `end`: where a

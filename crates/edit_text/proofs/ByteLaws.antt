@@ -5,8 +5,8 @@ use Rattle.std.specs.List.{sum_by}
 use Rattle.std.proofs.lemmas.List.{take-append-le, drop-append-le}
 use Rattle.std.proofs.lemmas.List.Sums.{sum_by-cons}
 use Rattle.std.proofs.lemmas.Bool.Decides.{nat_tests}
-use Rattle.edit_text.specs.declared.parts.Part.{Part}
-use Rattle.edit_text.specs.declared.places.Place.{Place}
+use Rattle.edit_text.specs.declared.parts.TextPart.{TextPart}
+use Rattle.edit_text.specs.declared.places.TextPlace.{TextPlace}
 use Rattle.edit_text.specs.Laws.{EditsChangeOnePart}
 use Rattle.edit_text.specs.Lines.{IsPartAt, bytes_of, deleted, inserted, is_inside, joined, line_at, offset, removed, split_at, with_bytes, without_bytes}
 use Rattle.edit_text.specs.Parts.{spelled}
@@ -119,7 +119,7 @@ in_column n m a b e = grind (arith, nat_tests)
 next_line : (n m a b : ℕ) → n < m → a ≤ b → b ≤ a → (n + 1 == m && a == b) ≡ false → suc n < m
 next_line n m a b l k j e = grind (arith, nat_tests)
 
-bytes-deleted : (ls : List (List ℕ)) (p : Place) (part : Part) → is_inside ls p ≡ true → IsPartAt ls p (Some part) → bytes_of (deleted ls p part) ≡ without_bytes (bytes_of ls) (offset ls p) (length (spelled part))
+bytes-deleted : (ls : List (List ℕ)) (p : TextPlace) (part : TextPart) → is_inside ls p ≡ true → IsPartAt ls p (Some part) → bytes_of (deleted ls p part) ≡ without_bytes (bytes_of ls) (offset ls p) (length (spelled part))
 bytes-deleted ls p part h there = either (nat_lt p.column (length (line_at ls p.line))) refl
   where
     l : p.line < length ls

@@ -4,15 +4,15 @@ use Rattle.std.specs.Prelude.{MatchBool, Option, encode_utf8, nat_lt}
 use Rattle.std.specs.List.{insert, remove}
 use Rattle.std.proofs.lemmas.List.{take-append-drop, take_at, drop_at, set-append_left, get_or_default, get_or_append_left, get_or-append_right, length-drop}
 use Rattle.std.proofs.lemmas.Bool.Decides.{nat_tests}
-use Rattle.edit_text.specs.declared.places.Place.{Place}
-use Rattle.edit_text.specs.declared.parts.Part.{Part}
-use Rattle.edit_text.specs.declared.parts.Part.TheVariants.{Byte, Character}
+use Rattle.edit_text.specs.declared.places.TextPlace.{TextPlace}
+use Rattle.edit_text.specs.declared.parts.TextPart.{TextPart}
+use Rattle.edit_text.specs.declared.parts.TextPart.TheVariants.{Byte, Character}
 use Rattle.edit_text.specs.declared.edits.Edit.TheVariants.{Inserted, Deleted, Split, Joined}
 use Rattle.edit_text.specs.Lines.{IsPartAt, deleted, inserted, is_end, joined, line_at, removed, split_at, with_bytes, without_bytes}
 use Rattle.edit_text.specs.Parts.{IsFirst, IsFirstPart, spelled}
 use Rattle.edit_text.specs.Code.Edits.{Undoes}
 
-abbrev pub at : ℕ → ℕ → Place
+abbrev pub at : ℕ → ℕ → TextPlace
 at n c = record { line = n; column = c }
 
 -- ---- a line
@@ -40,28 +40,28 @@ length-without (x ∷ xs) (suc c) n k = omega (arith, length-without xs c n (ome
 -- ---- parts
 
 -- bytes are their first part and the rest
-pub first_splits : (xs : List ℕ) (part : Part) → IsFirst xs part → xs ≡ spelled part ++ drop (length (spelled part)) xs
+pub first_splits : (xs : List ℕ) (part : TextPart) → IsFirst xs part → xs ≡ spelled part ++ drop (length (spelled part)) xs
 first_splits xs (Character c) h = h.bytes_are ∙ ap (λ l. encode_utf8 c ++ l) (sym (ap (drop (length (encode_utf8 c))) h.bytes_are ∙ drop_at (encode_utf8 c) h.rest (length (encode_utf8 c)) refl))
 first_splits xs (Byte b) h = h.0.1 ∙ ap (λ l. b ∷ l) (sym (ap (drop 1) h.0.1))
 
-pub first_within : (xs : List ℕ) (part : Part) → IsFirst xs part → length (spelled part) ≤ length xs
+pub first_within : (xs : List ℕ) (part : TextPart) → IsFirst xs part → length (spelled part) ≤ length xs
 first_within xs part h = omega (arith, ap length (first_splits xs part h), length-append (spelled part) (drop (length (spelled part)) xs))
 
 -- the part at a place before the end of its line, and at the end
-pub at_inside : (ls : List (List ℕ)) (p : Place) (part : Option Part) → p.column < length (line_at ls p.line) → IsPartAt ls p part → IsFirstPart (drop p.column (line_at ls p.line)) part
+pub at_inside : (ls : List (List ℕ)) (p : TextPlace) (part : Option TextPart) → p.column < length (line_at ls p.line) → IsPartAt ls p part → IsFirstPart (drop p.column (line_at ls p.line)) part
 at_inside ls p part l h = subst (λ t. MatchBool t (IsFirstPart (drop p.column (line_at ls p.line)) part) (part ≡ cond (is_end ls p) None (Some (Byte 10)))) (less p.column (length (line_at ls p.line)) l) h
   where
     less : (a b : ℕ) → a < b → nat_lt a b ≡ true
     less a b l = grind (arith, nat_tests)
 
-pub at_end : (ls : List (List ℕ)) (p : Place) (part : Option Part) → length (line_at ls p.line) ≤ p.column → IsPartAt ls p part → part ≡ cond (is_end ls p) None (Some (Byte 10))
+pub at_end : (ls : List (List ℕ)) (p : TextPlace) (part : Option TextPart) → length (line_at ls p.line) ≤ p.column → IsPartAt ls p part → part ≡ cond (is_end ls p) None (Some (Byte 10))
 at_end ls p part l h = subst (λ t. MatchBool t (IsFirstPart (drop p.column (line_at ls p.line)) part) (part ≡ cond (is_end ls p) None (Some (Byte 10)))) (not_less p.column (length (line_at ls p.line)) l) h
   where
     not_less : (a b : ℕ) → b ≤ a → nat_lt a b ≡ false
     not_less a b l = grind (arith, nat_tests)
 
 -- a part at the end of a line is a line feed, and this is not the end of the text
-pub is_feed : (ls : List (List ℕ)) (p : Place) (part : Part) → length (line_at ls p.line) ≤ p.column → IsPartAt ls p (Some part) → (part ≡ Byte 10) × (is_end ls p ≡ false)
+pub is_feed : (ls : List (List ℕ)) (p : TextPlace) (part : TextPart) → length (line_at ls p.line) ≤ p.column → IsPartAt ls p (Some part) → (part ≡ Byte 10) × (is_end ls p ≡ false)
 is_feed ls p part l h = by (is_end ls p) (at_end ls p (Some part) l h)
   where
     by : (t : Bool) → Some part ≡ cond t None (Some (Byte 10)) → (part ≡ Byte 10) × (t ≡ false)
@@ -69,7 +69,7 @@ is_feed ls p part l h = by (is_end ls p) (at_end ls p (Some part) l h)
     by false e = ((cc), refl)
 
 -- so many bytes are there
-pub part_within : (ls : List (List ℕ)) (p : Place) (part : Part) → p.column < length (line_at ls p.line) → IsPartAt ls p (Some part) → p.column + length (spelled part) ≤ length (line_at ls p.line)
+pub part_within : (ls : List (List ℕ)) (p : TextPlace) (part : TextPart) → p.column < length (line_at ls p.line) → IsPartAt ls p (Some part) → p.column + length (spelled part) ≤ length (line_at ls p.line)
 part_within ls p part l h = omega (arith, l, first_within _ part (at_inside ls p (Some part) l h), length-drop p.column (line_at ls p.line))
 
 -- ---- lines
@@ -135,14 +135,14 @@ length-joined (x ∷ y ∷ ls) (suc n) l = ap suc (length-joined (y ∷ ls) n (o
 
 -- ---- each edit is undone
 
-pub insertion_undoes : (ls : List (List ℕ)) (p : Place) (part : Part) → p.line < length ls → p.column ≤ length (line_at ls p.line) → Undoes (Inserted p part) p ls (inserted ls p (spelled part))
+pub insertion_undoes : (ls : List (List ℕ)) (p : TextPlace) (part : TextPart) → p.line < length ls → p.column ≤ length (line_at ls p.line) → Undoes (Inserted p part) p ls (inserted ls p (spelled part))
 insertion_undoes ls p part l k =
     let bs : List ℕ = spelled part in
     let lines = length-inserted ls p.line p.column bs in
     let line = ap length (line-inserted ls p.line p.column bs l) ∙ length-with (line_at ls p.line) p.column bs k in
     record { at = refl; can = (omega arith, omega arith); back = removed-inserted ls p.line p.column bs l k }
 
-pub removal_undoes : (ls : List (List ℕ)) (p : Place) (part : Part) → p.line < length ls → p.column < length (line_at ls p.line) → IsPartAt ls p (Some part) → Undoes (Deleted p part) p ls (removed ls p (length (spelled part)))
+pub removal_undoes : (ls : List (List ℕ)) (p : TextPlace) (part : TextPart) → p.line < length ls → p.column < length (line_at ls p.line) → IsPartAt ls p (Some part) → Undoes (Deleted p part) p ls (removed ls p (length (spelled part)))
 removal_undoes ls p part l k h =
     let n : ℕ = length (spelled part) in
     let first : IsFirst (drop p.column (line_at ls p.line)) part = at_inside ls p (Some part) k h in
@@ -153,12 +153,12 @@ removal_undoes ls p part l k h =
     let column : p.column ≤ length (line_at ls p.line) = omega arith in
     record { at = refl; can = (omega arith, omega arith); back = inserted-removed ls p.line p.column (spelled part) l column (first_splits _ part first) }
 
-pub split_undoes : (ls : List (List ℕ)) (p : Place) → p.line < length ls → Undoes (Split p) p ls (split_at ls p)
+pub split_undoes : (ls : List (List ℕ)) (p : TextPlace) → p.line < length ls → Undoes (Split p) p ls (split_at ls p)
 split_undoes ls p l =
     let lines = length-split ls p.line p.column l in
     record { at = refl; can = omega arith; back = joined-split ls p.line p.column l }
 
-pub join_undoes : (ls : List (List ℕ)) (p : Place) → suc p.line < length ls → p.column ≡ length (line_at ls p.line) → Undoes (Joined p) p ls (joined ls p.line)
+pub join_undoes : (ls : List (List ℕ)) (p : TextPlace) → suc p.line < length ls → p.column ≡ length (line_at ls p.line) → Undoes (Joined p) p ls (joined ls p.line)
 join_undoes ls p l e =
     let lines = length-joined ls p.line l in
     let line = ap length (line-joined ls p.line l) ∙ length-append' (line_at ls p.line) (line_at ls (suc p.line)) in
@@ -169,7 +169,7 @@ join_undoes ls p l e =
 
 -- ---- what the code makes is what is defined
 
-pub split_is : (ls : List (List ℕ)) (p : Place) → p.line < length ls → insert (set ls p.line (take p.column (line_at ls p.line))) (p.line + 1) (drop p.column (line_at ls p.line)) ≡ split_at ls p
+pub split_is : (ls : List (List ℕ)) (p : TextPlace) → p.line < length ls → insert (set ls p.line (take p.column (line_at ls p.line))) (p.line + 1) (drop p.column (line_at ls p.line)) ≡ split_at ls p
 split_is ls p l = rw add-one (made ls p.line p.column l)
   where
     made : (ls : List (List ℕ)) (n c : ℕ) → n < length ls → insert (set ls n (take c (line_at ls n))) (suc n) (drop c (line_at ls n)) ≡ split_at ls (at n c)
@@ -177,7 +177,7 @@ split_is ls p l = rw add-one (made ls p.line p.column l)
     made (x ∷ ls) zero c l = refl
     made (x ∷ ls) (suc n) c l = ap (λ r. x ∷ r) (made ls n c (omega arith))
 
-pub split_read : (ls was : List (List ℕ)) (p : Place) (line : List ℕ) → was ≡ ls → p.line < length ls → line ≡ get_or was p.line line → insert (set was p.line (take p.column line)) (p.line + 1) (drop p.column line) ≡ split_at ls p
+pub split_read : (ls was : List (List ℕ)) (p : TextPlace) (line : List ℕ) → was ≡ ls → p.line < length ls → line ≡ get_or was p.line line → insert (set was p.line (take p.column line)) (p.line + 1) (drop p.column line) ≡ split_at ls p
 split_read ls was p line same l line_is =
     (λ i. insert (set (same i) p.line (take p.column (there i))) (p.line + 1) (drop p.column (there i))) ∙ split_is ls p l
   where
@@ -194,13 +194,13 @@ join_is ls n l = rw add-one (made ls n l)
     made (x ∷ y ∷ ls) (suc n) l = ap (λ r. x ∷ r) (made (y ∷ ls) n (omega arith))
 
 -- before the end of a line bytes are removed, and after the last one the next line is joined
-pub removed_is : (ls : List (List ℕ)) (p : Place) (part : Part) → p.column < length (line_at ls p.line) → removed ls p (length (spelled part)) ≡ deleted ls p part
+pub removed_is : (ls : List (List ℕ)) (p : TextPlace) (part : TextPart) → p.column < length (line_at ls p.line) → removed ls p (length (spelled part)) ≡ deleted ls p part
 removed_is ls p part l = ap (λ t. cond t (removed ls p (length (spelled part))) (joined ls p.line)) (sym (less p.column (length (line_at ls p.line)) l))
   where
     less : (a b : ℕ) → a < b → nat_lt a b ≡ true
     less a b l = grind (arith, nat_tests)
 
-pub joined_is : (ls : List (List ℕ)) (p : Place) (part : Part) → length (line_at ls p.line) ≤ p.column → joined ls p.line ≡ deleted ls p part
+pub joined_is : (ls : List (List ℕ)) (p : TextPlace) (part : TextPart) → length (line_at ls p.line) ≤ p.column → joined ls p.line ≡ deleted ls p part
 joined_is ls p part past = ap (λ t. cond t (removed ls p (length (spelled part))) (joined ls p.line)) (sym (not_less p.column (length (line_at ls p.line)) past))
   where
     not_less : (a b : ℕ) → b ≤ a → nat_lt a b ≡ false
@@ -223,7 +223,7 @@ append_is ls front back n d e new whole front_is some new_is =
     bytes = new_is ∙ (λ i. first i ++ second i)
 
 -- after the last byte of a line, and not at the end of the text: there is a next line
-pub not_last : (ls : List (List ℕ)) (p : Place) → p.line < length ls → p.column ≤ length (line_at ls p.line) → length (line_at ls p.line) ≤ p.column → is_end ls p ≡ false → suc p.line < length ls
+pub not_last : (ls : List (List ℕ)) (p : TextPlace) → p.line < length ls → p.column ≤ length (line_at ls p.line) → length (line_at ls p.line) ≤ p.column → is_end ls p ≡ false → suc p.line < length ls
 not_last ls p l k past e = numbers p.line (length ls) p.column (length (line_at ls p.line)) l k past e
   where
     numbers : (n lines c length : ℕ) → n < lines → c ≤ length → length ≤ c → (n + 1 == lines && c == length) ≡ false → suc n < lines

@@ -2,8 +2,8 @@
 use Rattle.std.proofs.Common.{◌≡◌, ℕ, zero, suc, ◌<◌, Bool, true, false, ◌||◌, ◌==◌, List, [], ◌∷◌, ◌++◌, length, take, drop, set, sym, ◌∙◌, ap, refl, arith, subst, cond}
 use Rattle.std.specs.Prelude.{nat_lt}
 use Rattle.std.specs.List.{list_any, slice_split, onto_first}
-use Rattle.edit_text.specs.declared.parts.Part.{Part}
-use Rattle.edit_text.specs.declared.places.Place.{Place}
+use Rattle.edit_text.specs.declared.parts.TextPart.{TextPart}
+use Rattle.edit_text.specs.declared.places.TextPlace.{TextPlace}
 use Rattle.edit_text.specs.Lines.{AreLines, deleted, has_line_feed, inserted, joined, line_at, removed, split_at, with_bytes, without_bytes}
 use Rattle.edit_text.specs.Parts.{spelled}
 use Rattle.edit_text.proofs.InverseLaws.{length-inserted, length-removed}
@@ -55,14 +55,14 @@ none_at (x ∷ ls) (suc n) h = none_at ls n (not_second (has_line_feed x) _ h)
 
 -- ---- edits
 
-pub lines_inserted : (ls : List (List ℕ)) (p : Place) (bs : List ℕ) → AreLines ls → has_line_feed bs ≡ false → AreLines (inserted ls p bs)
+pub lines_inserted : (ls : List (List ℕ)) (p : TextPlace) (bs : List ℕ) → AreLines ls → has_line_feed bs ≡ false → AreLines (inserted ls p bs)
 lines_inserted ls p bs h k =
     record {
       some = subst (λ n. 0 < n) (sym (length-inserted ls p.line p.column bs)) h.some;
       whole = none_set has_line_feed p.line ls _ h.whole (none_with (λ byte. byte == 10) p.column (line_at ls p.line) bs (none_at ls p.line h.whole) k);
     }
 
-pub lines_removed : (ls : List (List ℕ)) (p : Place) (n : ℕ) → AreLines ls → AreLines (removed ls p n)
+pub lines_removed : (ls : List (List ℕ)) (p : TextPlace) (n : ℕ) → AreLines ls → AreLines (removed ls p n)
 lines_removed ls p n h =
     record {
       some = subst (λ n. 0 < n) (sym (length-removed ls p.line p.column n)) h.some;
@@ -73,7 +73,7 @@ some_there : (xs ys : List (List ℕ)) (x : List ℕ) → 0 < length (xs ++ (x �
 some_there [] ys x = omega arith
 some_there (y ∷ xs) ys x = omega arith
 
-pub lines_split : (ls : List (List ℕ)) (p : Place) → AreLines ls → AreLines (split_at ls p)
+pub lines_split : (ls : List (List ℕ)) (p : TextPlace) → AreLines ls → AreLines (split_at ls p)
 lines_split ls p h =
     let line : List ℕ = line_at ls p.line in
     let clean : has_line_feed (line_at ls p.line) ≡ false = none_at ls p.line h.whole in
@@ -92,7 +92,7 @@ lines_joined ls n h =
           (neither _ _ (none_both (λ byte. byte == 10) (line_at ls n) (line_at ls (suc n)) (none_at ls n h.whole) (none_at ls (suc n) h.whole)) (none_drop has_line_feed (suc (suc n)) ls h.whole));
     }
 
-pub lines_deleted : (ls : List (List ℕ)) (p : Place) (part : Part) → AreLines ls → AreLines (deleted ls p part)
+pub lines_deleted : (ls : List (List ℕ)) (p : TextPlace) (part : TextPart) → AreLines ls → AreLines (deleted ls p part)
 lines_deleted ls p part h = either (nat_lt p.column (length (line_at ls p.line)))
   where
     either : (t : Bool) → AreLines (cond t (removed ls p (length (spelled part))) (joined ls p.line))

@@ -2,7 +2,7 @@
 use Rattle.std.proofs.Common.{◌≡◌, ℕ, ◌+◌, ◌-◌, ◌<◌, ◌≤◌, Bool, true, false, ◌&&◌, ◌||◌, cond, List, length, take, drop, get_or, None, Some, sym, ◌∙◌, ap, refl, arith, subst, min}
 use Rattle.std.proofs.lemmas.List.{length-take, length-drop, get_or-take, get_or-drop, drop-drop, same_lists, get_or_default, length-take-le}
 use Rattle.memchr.specs.Find.{OccursAt, FindsNeedle}
-use Rattle.edit_text.specs.declared.places.Place.{Place}
+use Rattle.edit_text.specs.declared.places.TextPlace.{TextPlace}
 use Rattle.edit_text.specs.Places.{is_before}
 use Rattle.edit_text.specs.Finds.{IsFound}
 use Rattle.edit_text.specs.Code.Searches.{IsAt, IsFirstColumn, IsFirstFrom}
@@ -58,5 +58,5 @@ found_later : (a b c : Bool) → b ≡ false → (a ≡ false → c ≡ false) �
 found_later true b c e h = ap (λ x. x && c) e
 found_later false b c e h = ap (λ x. x || c) e ∙ h refl
 
-pub found_from : (lines : List (List ℕ)) (from : Place) (bytes : List ℕ) (place : Place) → IsFirstFrom lines from bytes (Some place) → IsFound lines from bytes (Some place)
+pub found_from : (lines : List (List ℕ)) (from : TextPlace) (bytes : List ℕ) (place : TextPlace) → IsFirstFrom lines from bytes (Some place) → IsFound lines from bytes (Some place)
 found_from lines from bytes place h = (h.0, λ p s. found_later (is_before p from) (is_before place from) (is_before p place) h.1 (h.2 p s))

@@ -1,9 +1,9 @@
 -- Lists of lines, and what an edit makes of one.
 use Rattle.std.specs.Prelude.{◌≡◌, ℕ, suc, ◌+◌, ◌<◌, Bool, false, ◌&&◌, nat_lt, nat_le, ◌==◌, List, [], ◌∷◌, ◌++◌, length, take, drop, slice_index_or, slice_set, if◌then◌else◌, MatchBool, Option, None, Some}
 use Rattle.std.specs.List.{list_any, join_with_byte, sum_by}
-use Rattle.edit_text.specs.declared.parts.Part.{Part}
-use Rattle.edit_text.specs.declared.parts.Part.TheVariants.{Byte}
-use Rattle.edit_text.specs.declared.places.Place.{Place}
+use Rattle.edit_text.specs.declared.parts.TextPart.{TextPart}
+use Rattle.edit_text.specs.declared.parts.TextPart.TheVariants.{Byte}
+use Rattle.edit_text.specs.declared.places.TextPlace.{TextPlace}
 use Rattle.edit_text.specs.Parts.{IsFirstPart, IsLastPart, spelled}
 
 -- the bytes of a file with these lines: the lines, joined by line feeds
@@ -24,11 +24,11 @@ abbrev pub line_at : List (List ℕ) → ℕ → List ℕ
 line_at lines n = slice_index_or lines n []
 
 -- whether a place is in the text: there is such a line, and the column is at most its length
-abbrev pub is_inside : List (List ℕ) → Place → Bool
+abbrev pub is_inside : List (List ℕ) → TextPlace → Bool
 is_inside lines place = nat_lt place.line (length lines) && nat_le place.column (length (line_at lines place.line))
 
 -- whether a place is the very end of the text
-abbrev pub is_end : List (List ℕ) → Place → Bool
+abbrev pub is_end : List (List ℕ) → TextPlace → Bool
 is_end lines place = place.line + 1 == length lines && place.column == length (line_at lines place.line)
 
 -- a line with some bytes more from a column on
@@ -40,15 +40,15 @@ abbrev pub without_bytes : List ℕ → ℕ → ℕ → List ℕ
 without_bytes line column count = take column line ++ drop count (drop column line)
 
 -- some bytes inserted at a place of its line
-abbrev pub inserted : List (List ℕ) → Place → List ℕ → List (List ℕ)
+abbrev pub inserted : List (List ℕ) → TextPlace → List ℕ → List (List ℕ)
 inserted lines place bytes = slice_set lines place.line (with_bytes (line_at lines place.line) place.column bytes)
 
 -- so many bytes at a place removed from its line
-abbrev pub removed : List (List ℕ) → Place → ℕ → List (List ℕ)
+abbrev pub removed : List (List ℕ) → TextPlace → ℕ → List (List ℕ)
 removed lines place count = slice_set lines place.line (without_bytes (line_at lines place.line) place.column count)
 
 -- a line in two: up to a place, and from there on
-abbrev pub split_at : List (List ℕ) → Place → List (List ℕ)
+abbrev pub split_at : List (List ℕ) → TextPlace → List (List ℕ)
 split_at lines place =
     let line = line_at lines place.line in
     take place.line lines ++ (take place.column line ∷ (drop place.column line ∷ drop (suc place.line) lines))
@@ -59,7 +59,7 @@ joined lines n = take n lines ++ ((line_at lines n ++ line_at lines (suc n)) ∷
 
 -- the part at a place: what the rest of the line begins with, or at the end of a line the line feed after it; none at
 -- the very end of the text
-abbrev pub IsPartAt : List (List ℕ) → Place → Option Part → Type 0
+abbrev pub IsPartAt : List (List ℕ) → TextPlace → Option TextPart → Type 0
 IsPartAt lines place part =
     MatchBool (nat_lt place.column (length (line_at lines place.line)))
     (IsFirstPart (drop place.column (line_at lines place.line)) part)
@@ -67,19 +67,19 @@ IsPartAt lines place part =
 
 -- the part before a place: what the line ends with up to there, or at the beginning of a line the line feed before it;
 -- none at the very beginning of the text
-abbrev pub IsPartBefore : List (List ℕ) → Place → Option Part → Type 0
+abbrev pub IsPartBefore : List (List ℕ) → TextPlace → Option TextPart → Type 0
 IsPartBefore lines place part =
     MatchBool (place.column == 0)
     (part ≡ (if place.line == 0 then None else Some (Byte 10)))
     (IsLastPart (take place.column (line_at lines place.line)) part)
 
 -- the lines without the part at a place; at the end of a line it is the end of that line
-abbrev pub deleted : List (List ℕ) → Place → Part → List (List ℕ)
+abbrev pub deleted : List (List ℕ) → TextPlace → TextPart → List (List ℕ)
 deleted lines place part =
     if nat_lt place.column (length (line_at lines place.line))
     then removed lines place (length (spelled part))
     else joined lines place.line
 
 -- how many bytes of the file are before a place: the lines before it with their line feeds, and its column
-abbrev pub offset : List (List ℕ) → Place → ℕ
+abbrev pub offset : List (List ℕ) → TextPlace → ℕ
 offset lines place = sum_by (λ line. suc (length line)) (take place.line lines) + place.column

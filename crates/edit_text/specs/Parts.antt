@@ -2,11 +2,11 @@
 -- column, with all bytes of its encoding in UTF-8 (RFC 3629, section 3), or else a byte.
 use Rattle.std.specs.Prelude.{◌≡◌, ◌⊎◌, ℕ, ◌+◌, ◌<◌, true, List, [], ◌∷◌, ◌++◌, length, drop, encode_utf8, Option, MatchOption}
 use Rattle.scr_cells.specs.Characters.{is_beyond_ascii}
-use Rattle.edit_text.specs.declared.parts.Part.{Part}
-use Rattle.edit_text.specs.declared.parts.Part.TheVariants.{Character, Byte}
+use Rattle.edit_text.specs.declared.parts.TextPart.{TextPart}
+use Rattle.edit_text.specs.declared.parts.TextPart.TheVariants.{Character, Byte}
 
 -- the bytes of a part
-abbrev pub spelled : Part → List ℕ
+abbrev pub spelled : TextPart → List ℕ
 spelled (Character character) = encode_utf8 character
 spelled (Byte byte) = byte ∷ []
 
@@ -23,20 +23,20 @@ pub record EndsWith (bytes : List ℕ) (character : ℕ) : Type 0 where
   pub bytes_are : bytes ≡ front ++ encode_utf8 character
 
 -- the part that bytes begin with: a character if there is one, and else the first byte
-abbrev pub IsFirst : List ℕ → Part → Type 0
+abbrev pub IsFirst : List ℕ → TextPart → Type 0
 IsFirst bytes (Character character) = BeginsWith bytes character
 IsFirst bytes (Byte byte) = ((rest : List ℕ) × (bytes ≡ byte ∷ rest)) × ((character : ℕ) → ¬ BeginsWith bytes character)
 
 -- the part that they end with
-abbrev pub IsLast : List ℕ → Part → Type 0
+abbrev pub IsLast : List ℕ → TextPart → Type 0
 IsLast bytes (Character character) = EndsWith bytes character
 IsLast bytes (Byte byte) = ((front : List ℕ) × (bytes ≡ front ++ byte ∷ [])) × ((character : ℕ) → ¬ EndsWith bytes character)
 
 -- the same where there may be no bytes, and so no part
-abbrev pub IsFirstPart : List ℕ → Option Part → Type 0
+abbrev pub IsFirstPart : List ℕ → Option TextPart → Type 0
 IsFirstPart bytes part = MatchOption part (bytes ≡ []) (IsFirst bytes)
 
-abbrev pub IsLastPart : List ℕ → Option Part → Type 0
+abbrev pub IsLastPart : List ℕ → Option TextPart → Type 0
 IsLastPart bytes part = MatchOption part (bytes ≡ []) (IsLast bytes)
 
 -- such a character begins at a column of a line, and another column is among its bytes

@@ -1,12 +1,12 @@
 -- What a text is: its lines, the texts before it, and a count of its changes.
 use Rattle.std.specs.Prelude.{ℕ, ◌+◌, ◌-◌, ◌^◌, min, ◌≡◌, true, List, [], ◌∷◌, Option, MatchOption}
 use Rattle.std.specs.List.{AllByRecursion}
-use Rattle.edit_text.specs.declared.places.Place.{Place}
+use Rattle.edit_text.specs.declared.places.TextPlace.{TextPlace}
 use Rattle.edit_text.specs.Lines.{AreLines, is_inside}
 
 -- an edit that can be undone: where it was made, and the lines before it
 pub record Step : Type 0 where
-  pub place : Place
+  pub place : TextPlace
   pub lines : List (List ℕ)
 
 -- a text: its lines, the edits that led to them, last one first, and the number of changes
@@ -34,7 +34,7 @@ abbrev pub fresh : List (List ℕ) → View
 fresh lines = record { lines = lines; past = []; version = 0 }
 
 -- a text after an edit at a place that led to these lines
-abbrev pub edited : View → Place → List (List ℕ) → View
+abbrev pub edited : View → TextPlace → List (List ℕ) → View
 edited text place lines =
     record {
       lines = lines;
@@ -44,5 +44,5 @@ edited text place lines =
 
 -- what undoing the last edit answers and leaves: the lines before it, one edit less, and where it was made; nothing
 -- without one
-abbrev pub IsUndone : View → Option Place → View → Type 0
+abbrev pub IsUndone : View → Option TextPlace → View → Type 0
 IsUndone old place new = MatchOption place ((old.past ≡ []) × (new ≡ old)) (λ p. (old.past ≡ record { place = p; lines = new.lines } ∷ new.past) × (new.version ≡ next old.version))

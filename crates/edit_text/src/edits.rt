@@ -2,25 +2,25 @@
 ghost use Rattle.std.specs.Prelude.{◌≡◌};
 ghost use Rattle.edit_text.specs.Code.Edits.{place_of};
 
-use crate::parts::Part;
-use crate::places::Place;
+use crate::parts::TextPart;
+use crate::places::TextPlace;
 
 // An edit that was made at a place.
 #[derive(Clone, Copy)]
 pub(crate) enum Edit {
     // This part was inserted.
-    Inserted(Place, Part),
+    Inserted(TextPlace, TextPart),
     // This part was deleted.
-    Deleted(Place, Part),
+    Deleted(TextPlace, TextPart),
     // The line was split.
-    Split(Place),
+    Split(TextPlace),
     // The next line was joined to the line that ended there.
-    Joined(Place),
+    Joined(TextPlace),
 }
 
 impl Edit {
     // Where it was made.
-    pub(crate) fn place(self) -> Place
+    pub(crate) fn place(self) -> TextPlace
         ensures { result ≡ place_of self }
     {
         match self {

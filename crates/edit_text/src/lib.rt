@@ -17,6 +17,6 @@ mod texts;
 pub use faults::EditFault;
 pub use laws::{characters_are_found, edits_change_one_part, texts_read_back};
 pub use out_of_memory::NoMemory;
-pub use parts::{Part, first_part, last_part};
-pub use places::Place;
+pub use parts::{TextPart, first_part, last_part};
+pub use places::TextPlace;
 pub use texts::Text;

@@ -6,8 +6,8 @@ ghost use Rattle.edit_text.specs.Code.Edits.{CanUndo, Undoes, undone};
 ghost use Rattle.edit_text.specs.Parts.{spelled};
 
 use crate::edits::Edit;
-use crate::parts::{Part, first_part, last_part};
-use crate::places::Place;
+use crate::parts::{TextPart, first_part, last_part};
+use crate::places::TextPlace;
 use out_of_memory::NoMemory;
 use std::alloc::Global;
 use std::marker::Model;
@@ -17,9 +17,9 @@ pub(crate) const LINE_FEED: u8 = b'\n';
 
 // A line of bytes.
 #[derive(Drop)]
-struct Line(Vec<u8>);
+struct TextLine(Vec<u8>);
 
-impl Model for Line {
+impl Model for TextLine {
     ghost use Rattle.std.specs.Prelude.{List, ℕ};
 
     ghost Value = { List ℕ };
@@ -27,30 +27,30 @@ impl Model for Line {
     ghost view = { λ line. line.0.items };
 }
 
-impl Line {
+impl TextLine {
     // Cuts the line at a column, and gives the rest. Fails only when memory runs out.
-    fn cut(&mut self, column: usize) -> Result<Line, NoMemory>
+    fn cut(&mut self, column: usize) -> Result<TextLine, NoMemory>
         requires { column ≤ length self.old }
         ensures rest { IfOk result (λ rest. rest ≡ drop column self.old) }
         ensures ok { OnOk result (self.new ≡ take column self.old) }
         ensures err { OnErr result (self.new ≡ self.old) }
     {
         let rest = self.0.split_off(column)?;
-        Ok(Line(rest))
+        Ok(TextLine(rest))
     }
 
     // Inserts a part at a column. Fails only when memory runs out.
-    fn insert(&mut self, column: usize, part: Part) -> Result<(), NoMemory>
+    fn insert(&mut self, column: usize, part: TextPart) -> Result<(), NoMemory>
         requires { column ≤ length self.old }
         ensures ok { OnOk result (self.new ≡ with_bytes self.old column (spelled part)) }
         ensures err { OnErr result (self.new ≡ self.old) }
     {
         match part {
-            Part::Byte(byte) => {
+            TextPart::Byte(byte) => {
                 self.0.insert(column, byte)?;
                 Ok(())
             }
-            Part::Character(character) => {
+            TextPart::Character(character) => {
                 let mut buffer = [0; 4];
                 self.insert_bytes(column, character.encode_utf8(&mut buffer).as_bytes())
             }
@@ -79,7 +79,7 @@ impl Line {
     }
 
     // Appends another line's bytes. Fails only when memory runs out.
-    fn append(&mut self, other: &Line) -> Result<(), NoMemory>
+    fn append(&mut self, other: &TextLine) -> Result<(), NoMemory>
         ensures ok { OnOk result (self.new ≡ self.old ++ other.now) }
         ensures err { OnErr result (self.new ≡ self.old) }
     {
@@ -90,7 +90,7 @@ impl Line {
 
 // Lines in order.
 #[derive(Drop)]
-pub(crate) struct Lines(Vec<Line>);
+pub(crate) struct Lines(Vec<TextLine>);
 
 impl Model for Lines {
     ghost use Rattle.std.specs.Prelude.{List, ℕ};
@@ -106,7 +106,7 @@ impl Lines {
         ensures { IfOk result (λ lines. lines ≡ [] ∷ []) }
     {
         let mut lines = Vec::new(alloc);
-        lines.push(Line(Vec::new(alloc)))?;
+        lines.push(TextLine(Vec::new(alloc)))?;
         Ok(Lines(lines))
     }
 
@@ -138,7 +138,7 @@ impl Lines {
     }
 
     // Whether a place is in these lines.
-    pub(crate) fn is_inside(&self, place: Place) -> bool
+    pub(crate) fn is_inside(&self, place: TextPlace) -> bool
         ensures { result ≡ is_inside self.now place }
     {
         place.line < self.count() && place.column <= self.length_of(place.line)
@@ -150,7 +150,7 @@ impl Lines {
     {
         let mut lines = Vec::new(alloc);
         for line in bytes.split(|byte| *byte == LINE_FEED) {
-            lines.push(Line(Vec::from_slice(alloc, line)?))?;
+            lines.push(TextLine(Vec::from_slice(alloc, line)?))?;
         }
         Ok(Lines(lines))
     }
@@ -162,14 +162,14 @@ impl Lines {
         let Some((first, rest)) = self.0.split_first() else {
             return Ok(Vec::new(alloc));
         };
-        let first: &Line = first;
+        let first: &TextLine = first;
         let mut bytes = Vec::from_slice(alloc, &first.0)?;
         append_lines(&mut bytes, rest)?;
         Ok(bytes)
     }
 
     // The part at a place in these lines.
-    pub(crate) fn part_at(&self, place: Place) -> Option<Part>
+    pub(crate) fn part_at(&self, place: TextPlace) -> Option<TextPart>
         requires line { place.line < length self.now }
         requires column { place.column ≤ length (line_at self.now place.line) }
         ensures { IsPartAt self.now place result }
@@ -180,14 +180,14 @@ impl Lines {
             return first_part(&line[place.column..]);
         }
         if place.line + 1 < count {
-            Some(Part::Byte(LINE_FEED))
+            Some(TextPart::Byte(LINE_FEED))
         } else {
             None
         }
     }
 
     // The part before a place in these lines.
-    pub(crate) fn part_before(&self, place: Place) -> Option<Part>
+    pub(crate) fn part_before(&self, place: TextPlace) -> Option<TextPart>
         requires line { place.line < length self.now }
         requires column { place.column ≤ length (line_at self.now place.line) }
         ensures { IsPartBefore self.now place result }
@@ -196,7 +196,7 @@ impl Lines {
             return last_part(&self.bytes_of(place.line)[..place.column]);
         }
         if place.line > 0 {
-            Some(Part::Byte(LINE_FEED))
+            Some(TextPart::Byte(LINE_FEED))
         } else {
             None
         }
@@ -213,7 +213,7 @@ impl Lines {
     }
 
     // Deletes the part at a place, and gives the edit that this was. Fails only when memory runs out.
-    pub(crate) fn delete(&mut self, place: Place, part: Part) -> Result<Edit, NoMemory>
+    pub(crate) fn delete(&mut self, place: TextPlace, part: TextPart) -> Result<Edit, NoMemory>
         requires line { place.line < length self.old }
         requires column { place.column ≤ length (line_at self.old place.line) }
         requires part { IsPartAt self.old place (Some part) }
@@ -247,7 +247,7 @@ impl Lines {
     }
 
     // Inserts a part at a place. Fails only when memory runs out.
-    pub(crate) fn insert(&mut self, place: Place, part: Part) -> Result<(), NoMemory>
+    pub(crate) fn insert(&mut self, place: TextPlace, part: TextPart) -> Result<(), NoMemory>
         requires line { place.line < length self.old }
         requires column { place.column ≤ length (line_at self.old place.line) }
         ensures ok { OnOk result (self.new ≡ inserted self.old place (spelled part)) }
@@ -257,7 +257,7 @@ impl Lines {
     }
 
     // Removes so many bytes at a place.
-    pub(crate) fn remove(&mut self, place: Place, count: usize)
+    pub(crate) fn remove(&mut self, place: TextPlace, count: usize)
         requires line { place.line < length self.old }
         requires column { place.column + count ≤ length (line_at self.old place.line) }
         ensures { self.new ≡ removed self.old place count }
@@ -266,7 +266,7 @@ impl Lines {
     }
 
     // Splits a line at a place. Fails only when memory runs out.
-    pub(crate) fn split(&mut self, place: Place) -> Result<(), NoMemory>
+    pub(crate) fn split(&mut self, place: TextPlace) -> Result<(), NoMemory>
         requires line { place.line < length self.old }
         requires column { place.column ≤ length (line_at self.old place.line) }
         ensures ok { OnOk result (self.new ≡ split_at self.old place) }
@@ -291,7 +291,7 @@ impl Lines {
 }
 
 // Appends the bytes of the next line to a line. Fails only when memory runs out.
-fn append_next(lines: &mut [Line], line: usize) -> Result<(), NoMemory>
+fn append_next(lines: &mut [TextLine], line: usize) -> Result<(), NoMemory>
     requires { suc line < length lines.old }
     ensures ok { OnOk result (lines.new ≡ slice_set lines.old line (line_at lines.old line ++ line_at lines.old (suc line))) }
     ensures err { OnErr result (lines.new ≡ lines.old) }
@@ -302,7 +302,7 @@ fn append_next(lines: &mut [Line], line: usize) -> Result<(), NoMemory>
 }
 
 // Appends lines, each after a line feed. Fails only when memory runs out.
-fn append_lines(bytes: &mut Vec<u8>, lines: &[Line]) -> Result<(), NoMemory>
+fn append_lines(bytes: &mut Vec<u8>, lines: &[TextLine]) -> Result<(), NoMemory>
     ensures { OnOk result (bytes.new.items ≡ bytes.old.items ++ flat_map (λ line. 10 ∷ line) lines.now) }
 {
     for line in lines {

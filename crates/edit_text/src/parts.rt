@@ -8,7 +8,7 @@ use scr_cells::is_beyond_ascii;
 
 /// A part of a line: what is shown, passed over and deleted as one.
 #[derive(Clone, Copy, Debug, PartialEq, Eq)]
-pub enum Part {
+pub enum TextPart {
     /// A character, with all bytes of its encoding in UTF-8. One that is read from a text is above ASCII and takes one
     /// column.
     Character(char),
@@ -16,14 +16,14 @@ pub enum Part {
     Byte(u8),
 }
 
-impl Part {
+impl TextPart {
     /// How many bytes it has.
     pub fn len(self) -> usize
         ensures { result ≡ length (spelled self) }
     {
         match self {
-            Part::Character(character) => character.len_utf8(),
-            Part::Byte(_) => 1,
+            TextPart::Character(character) => character.len_utf8(),
+            TextPart::Byte(_) => 1,
         }
     }
 
@@ -32,25 +32,25 @@ impl Part {
         ensures { result ≡ has_line_feed (spelled self) }
     {
         match self {
-            Part::Character(character) => character == '\n',
-            Part::Byte(byte) => byte == b'\n',
+            TextPart::Character(character) => character == '\n',
+            TextPart::Byte(byte) => byte == b'\n',
         }
     }
 }
 
 /// The part that bytes begin with; `None` if there are no bytes.
-pub fn first_part(bytes: &[u8]) -> Option<Part>
+pub fn first_part(bytes: &[u8]) -> Option<TextPart>
     ensures { IsFirstPart bytes.now result }
 {
     let Some((&first, _)) = bytes.split_first() else {
         return None;
     };
     if first < 128 {
-        return Some(Part::Byte(first));
+        return Some(TextPart::Byte(first));
     }
     match first_character(bytes) {
-        Some(character) => Some(Part::Character(character)),
-        None => Some(Part::Byte(first)),
+        Some(character) => Some(TextPart::Character(character)),
+        None => Some(TextPart::Byte(first)),
     }
 }
 
@@ -68,22 +68,22 @@ fn first_character(bytes: &[u8]) -> Option<char>
 }
 
 /// The part that bytes end with; `None` if there are no bytes.
-pub fn last_part(bytes: &[u8]) -> Option<Part>
+pub fn last_part(bytes: &[u8]) -> Option<TextPart>
     ensures { IsLastPart bytes.now result }
 {
     let Some((&last, _)) = bytes.split_last() else {
         return None;
     };
     if last < 128 {
-        return Some(Part::Byte(last));
+        return Some(TextPart::Byte(last));
     }
     // A character above ASCII that takes one column has two bytes, or three.
     if let Some(character) = last_character(bytes, 2) {
-        return Some(Part::Character(character));
+        return Some(TextPart::Character(character));
     }
     match last_character(bytes, 3) {
-        Some(character) => Some(Part::Character(character)),
-        None => Some(Part::Byte(last)),
+        Some(character) => Some(TextPart::Character(character)),
+        None => Some(TextPart::Byte(last)),
     }
 }
 

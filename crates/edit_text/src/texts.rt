@@ -11,8 +11,8 @@ use crate::edits::Edit;
 use crate::faults::EditFault;
 use crate::finding::find;
 use crate::lines::Lines;
-use crate::parts::{Part, part_start};
-use crate::places::Place;
+use crate::parts::{TextPart, part_start};
+use crate::places::TextPlace;
 use out_of_memory::NoMemory;
 use std::alloc::Global;
 use std::marker::Model;
@@ -89,7 +89,7 @@ impl Text {
     }
 
     /// Whether a place is in the text: there is such a line, and the column is at most its length.
-    pub fn is_inside(&self, place: Place) -> bool
+    pub fn is_inside(&self, place: TextPlace) -> bool
         ensures { result ≡ is_inside self.now.lines place }
     {
         self.lines.is_inside(place)
@@ -105,7 +105,7 @@ impl Text {
 
     /// The part at a place: the character that begins there or the byte, or a line feed at the end of a line but the
     /// last. `None` at the very end of the text, and outside.
-    pub fn part_at(&self, place: Place) -> Option<Part>
+    pub fn part_at(&self, place: TextPlace) -> Option<TextPart>
         ensures inside { is_inside self.now.lines place ≡ true → IsPartAt self.now.lines place result }
         ensures outside { is_inside self.now.lines place ≡ false → result ≡ None }
     {
@@ -117,7 +117,7 @@ impl Text {
 
     /// The part before a place: the character that ends there or the byte, or a line feed at the beginning of a line
     /// but the first. `None` at the very beginning of the text, and outside.
-    pub fn part_before(&self, place: Place) -> Option<Part>
+    pub fn part_before(&self, place: TextPlace) -> Option<TextPart>
         ensures inside { is_inside self.now.lines place ≡ true → IsPartBefore self.now.lines place result }
         ensures outside { is_inside self.now.lines place ≡ false → result ≡ None }
     {
@@ -129,12 +129,12 @@ impl Text {
 
     /// The place itself if it is between parts of its line, and else the one where the character begins that it is
     /// within.
-    pub fn part_start(&self, place: Place) -> Place
+    pub fn part_start(&self, place: TextPlace) -> TextPlace
         ensures line { result.line ≡ place.line }
         ensures column { IsBetween (line_at self.now.lines place.line) place.column result.column }
     {
         let column = part_start(self.lines.bytes_of(place.line), place.column);
-        Place {
+        TextPlace {
             line: place.line,
             column,
         }
@@ -144,7 +144,7 @@ impl Text {
     ///
     /// Refused with `OutsideText` if the place is outside the text, then with `LineFeed` if the part is a line feed,
     /// then with `NoMemory`.
-    pub fn insert(&mut self, place: Place, part: Part) -> Result<(), EditFault>
+    pub fn insert(&mut self, place: TextPlace, part: TextPart) -> Result<(), EditFault>
         ensures refused { IsRefusedBy result (insert_refusal self.old.lines place part) }
         ensures ok { IfOk result (λ _. self.new ≡ edited self.old place (inserted self.old.lines place (spelled part))) }
         ensures err { OnErr result (self.new ≡ self.old) }
@@ -162,7 +162,7 @@ impl Text {
     /// Splits a line at a place; the rest of it becomes the next line.
     ///
     /// Refused with `OutsideText` if the place is outside the text, then with `NoMemory`.
-    pub fn split(&mut self, place: Place) -> Result<(), EditFault>
+    pub fn split(&mut self, place: TextPlace) -> Result<(), EditFault>
         ensures refused { IsRefusedBy result (place_refusal self.old.lines place) }
         ensures ok { IfOk result (λ _. self.new ≡ edited self.old place (split_at self.old.lines place)) }
         ensures err { OnErr result (self.new ≡ self.old) }
@@ -178,7 +178,7 @@ impl Text {
     /// its line feed, so that the next line is joined to it. `None` at the very end of the text, and nothing changes.
     ///
     /// Refused with `OutsideText` if the place is outside the text, then with `NoMemory`.
-    pub fn delete(&mut self, place: Place) -> Result<Option<Part>, EditFault>
+    pub fn delete(&mut self, place: TextPlace) -> Result<Option<TextPart>, EditFault>
         ensures refused { IsRefusedBy result (place_refusal self.old.lines place) }
         ensures part { IfOk result (λ part. IsPartAt self.old.lines place part) }
         ensures ok { IfOk result (λ part. MatchOption part (self.new ≡ self.old) (λ p. self.new ≡ edited self.old place (deleted self.old.lines place p))) }
@@ -200,7 +200,7 @@ impl Text {
     /// `None` if there is none, and nothing changes. What is undone is not kept.
     ///
     /// Fails only when memory runs out; then nothing changes.
-    pub fn undo(&mut self) -> Result<Option<Place>, NoMemory>
+    pub fn undo(&mut self) -> Result<Option<TextPlace>, NoMemory>
         ensures ok { IfOk result (λ place. IsUndone self.old place self.new) }
         ensures err { OnErr result (self.new ≡ self.old) }
     {
@@ -216,7 +216,7 @@ impl Text {
 
     /// The first place at which these bytes occur within a line: the places from `from` on are tried first, line by
     /// line, and then those before it. `None` if they occur nowhere, and for no bytes.
-    pub fn find(&self, from: Place, bytes: &[u8]) -> Option<Place>
+    pub fn find(&self, from: TextPlace, bytes: &[u8]) -> Option<TextPlace>
         ensures { IsFound self.now.lines from bytes.now result }
     {
         find(&self.lines, from, bytes)
@@ -237,7 +237,7 @@ impl Text {
     }
 
     // Inserts a part at a place in the text. Fails only when memory runs out.
-    fn insert_inside(&mut self, place: Place, part: Part) -> Result<(), NoMemory>
+    fn insert_inside(&mut self, place: TextPlace, part: TextPart) -> Result<(), NoMemory>
         requires line { place.line < length self.old.lines }
         requires column { place.column ≤ length (line_at self.old.lines place.line) }
         requires part { has_line_feed (spelled part) ≡ false }
@@ -252,7 +252,7 @@ impl Text {
     }
 
     // Splits a line at a place in the text. Fails only when memory runs out.
-    fn split_inside(&mut self, place: Place) -> Result<(), NoMemory>
+    fn split_inside(&mut self, place: TextPlace) -> Result<(), NoMemory>
         requires line { place.line < length self.old.lines }
         requires column { place.column ≤ length (line_at self.old.lines place.line) }
         ensures ok { IfOk result (λ _. self.new ≡ edited self.old place (split_at self.old.lines place)) }
@@ -266,7 +266,7 @@ impl Text {
     }
 
     // Deletes the part at a place in the text. Fails only when memory runs out.
-    fn delete_inside(&mut self, place: Place, part: Part) -> Result<(), NoMemory>
+    fn delete_inside(&mut self, place: TextPlace, part: TextPart) -> Result<(), NoMemory>
         requires line { place.line < length self.old.lines }
         requires column { place.column ≤ length (line_at self.old.lines place.line) }
         requires part { IsPartAt self.old.lines place (Some part) }

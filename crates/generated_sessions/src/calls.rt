@@ -5,14 +5,14 @@ use crate::answers::add_defined;
 use crate::recorded::Recorded;
 use crate::writers::read_fails;
 use check_harness::troubles::Trouble;
-use check_harness::words::Line;
+use check_harness::words::CallLine;
 use scr_windows::Win;
 use screen_sessions::{Call, CallFault, Reason};
 use ti_caps::Bytes;
 
 /// The calls of a screen by their names, `update`, `start` and `close` with a writer that fails as the name says, and
 /// `others TEXT`, which others write on the terminal. Tells whether a line is one of them.
-pub fn obey(opened: &mut Recorded, line: &mut Line<'_>) -> Result<bool, Trouble> {
+pub fn obey(opened: &mut Recorded, line: &mut CallLine<'_>) -> Result<bool, Trouble> {
     if line.name == "others" {
         let text = line.text();
         add_defined(opened.emulated.feed(text.bytes()), &mut line.got);
@@ -28,7 +28,7 @@ pub fn obey(opened: &mut Recorded, line: &mut Line<'_>) -> Result<bool, Trouble>
 }
 
 // An update, or what starts or closes a screen; tells whether a line is one.
-fn writes(opened: &mut Recorded, line: &mut Line<'_>) -> Result<bool, Trouble> {
+fn writes(opened: &mut Recorded, line: &mut CallLine<'_>) -> Result<bool, Trouble> {
     for what in ["update", "start", "close"] {
         if let Some(end) = line.name.strip_prefix(what)
             && let Some(fails) = read_fails(end, &mut line.words)
@@ -45,7 +45,7 @@ fn writes(opened: &mut Recorded, line: &mut Line<'_>) -> Result<bool, Trouble> {
 
 // The call of a line; `None` where the name is that of none. Texts in quotation marks are read as all lines of checks
 // have them.
-fn call_of(line: &mut Line<'_>) -> Result<Option<Call>, Trouble> {
+fn call_of(line: &mut CallLine<'_>) -> Result<Option<Call>, Trouble> {
     if line.name == "add_text" {
         let win = Win(line.words.number());
         return Ok(Some(Call::AddText(win, Bytes(line.text().into_bytes()))));

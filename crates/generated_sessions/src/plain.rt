@@ -11,13 +11,13 @@ use screen_sessions::Call;
 use std::alloc::Global;
 
 // What a place has: a character, what stands for it in ASCII, attributes and a colour pair.
-type Place = (char, u8, u8, u32);
+type PlainPlace = (char, u8, u8, u32);
 
 /// The picture.
 #[derive(Drop)]
 pub struct Plain {
     size: Size,
-    places: Vec<Place>,
+    places: Vec<PlainPlace>,
     // The foreground and the background of each colour pair.
     pairs: Vec<(Option<u32>, Option<u32>)>,
     wish: Option<(u32, u32)>,
@@ -27,7 +27,7 @@ pub struct Plain {
 
 // A part of a window, and where its first place comes on the screen.
 #[derive(Clone, Copy)]
-struct Part {
+struct WindowPart {
     row: u32,
     column: u32,
     top: u32,
@@ -78,7 +78,7 @@ impl Plain {
                 }
             }
             Call::PadNoutrefresh(win, row, column, top, left, bottom, right) => {
-                let part = Part {
+                let part = WindowPart {
                     row: *row,
                     column: *column,
                     top: *top,
@@ -93,7 +93,7 @@ impl Plain {
     }
 
     // Copies a part of a window, and the window's cursor, where it lies in that.
-    fn take(&mut self, screen: &Screen, win: Win, part: Part) {
+    fn take(&mut self, screen: &Screen, win: Win, part: WindowPart) {
         let Ok(window) = screen.window(win) else {
             return;
         };
@@ -116,7 +116,7 @@ impl Plain {
         }
     }
 
-    fn take_line(&mut self, line: &[Cell], part: Part, row: u32) {
+    fn take_line(&mut self, line: &[Cell], part: WindowPart, row: u32) {
         let cells = line
             .iter()
             .skip(part.column as usize)
@@ -168,7 +168,13 @@ impl Plain {
     }
 
     // Whether a look is what a terminal with these operations shows of a place.
-    fn is_seen(&self, emulated: &Emulated, profile: &Profile, look: Look, place: Place) -> bool {
+    fn is_seen(
+        &self,
+        emulated: &Emulated,
+        profile: &Profile,
+        look: Look,
+        place: PlainPlace,
+    ) -> bool {
         let (character, stand_in, attrs, pair) = place;
         let wanted = match profile.charset() {
             Charset::Ascii => char::from(stand_in),
@@ -185,7 +191,7 @@ impl Plain {
     }
 }
 
-impl Part {
+impl WindowPart {
     // Where a place of the window is shown, if it is.
     fn shown_at(self, (row, column): (u32, u32)) -> Option<(u32, u32)> {
         let down = row.checked_sub(self.row)?;
@@ -201,10 +207,10 @@ impl Part {
 }
 
 // All of a window, in its place on the screen.
-fn window_part(screen: &Screen, win: Win) -> Option<Part> {
+fn window_part(screen: &Screen, win: Win) -> Option<WindowPart> {
     let (top, left) = screen.origin(win).ok()?;
     let (rows, columns) = screen.size(win).ok()?;
-    Some(Part {
+    Some(WindowPart {
         row: 0,
         column: 0,
         top,

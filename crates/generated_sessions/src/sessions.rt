@@ -11,7 +11,7 @@ use check_harness::answers::{add_number, add_text, add_word};
 use check_harness::buffers::Buffer;
 use check_harness::random::Random;
 use check_harness::troubles::Trouble;
-use check_harness::words::{Line, Words};
+use check_harness::words::{CallLine, Words};
 use curses::{KeySet, Opening};
 use scr_cells::{Charset, Size};
 use scr_term::Op;
@@ -68,7 +68,10 @@ struct Sessions {
 ///
 /// The line `cut_sessions R C COUNT UPDATES SEED CUTS NAME ..`: the same, but that no update fails and nothing is
 /// written by others, and each update is cut as with `count_cuts`, which is at least so many cuts.
-pub fn check_sessions(opened: &mut Option<Recorded>, line: &mut Line<'_>) -> Result<(), Trouble> {
+pub fn check_sessions(
+    opened: &mut Option<Recorded>,
+    line: &mut CallLine<'_>,
+) -> Result<(), Trouble> {
     let opening = opening_of(line.name);
     let is_narrow = line.name == "narrow_sessions";
     let (is_cut, words) = (line.name.ends_with("cut_sessions"), &mut line.words);
@@ -305,7 +308,7 @@ impl Sessions {
         self.story.extend(self.line.bytes());
         self.story.push(b'\n');
         let got = self.answer.take(self.alloc);
-        let mut line = Line::new(self.alloc, Words::new(self.line.bytes()), got);
+        let mut line = CallLine::new(self.alloc, Words::new(self.line.bytes()), got);
         let obeyed = obey(opened, &mut line);
         let done = line.words.done();
         self.answer = line.got;

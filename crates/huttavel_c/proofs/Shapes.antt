@@ -30,7 +30,7 @@ use Rattle.std.proofs.cell.Inside.{Good}
 use Rattle.std.proofs.ResultValues.{and_tt}
 use Rattle.huttavel_c.specs.Holding.{maybe_owns}
 use Rattle.huttavel_c.specs.contracts.held.Held as held
-use Rattle.huttavel_c.specs.contracts.parts.Parts as parts
+use Rattle.huttavel_c.specs.contracts.parts.HeldParts as parts
 use Rattle.huttavel_c.specs.contracts.sessions.Kept as kept
 
 -- What is there is found.
@@ -85,7 +85,7 @@ module _ (R Z : RattleType) (L : Laws Z) (g : Ghosts Z.Denot) where
     placed t a p x k = in_a_block t p (λ q. owned a q x) (fst∗ 𝓤 (never 𝓤) (sem 𝓛 (g.dealloc_token a (bare (lone R.mir)) null_ptr))) (λ b o e. k b o e)
 
   module _ {M : Type 1} {𝓤 : Ura M} {𝓛 : Logic 𝓤} {K : Type 0} {Γ : List (Item 𝓤)} {G : Goal 𝓤 𝓛.H} where
-    -- Parts are an address, an allocator, and what is owned there.
+    -- HeldParts are an address, an allocator, and what is owned there.
     pub parts_out : K → (d : Pieces.Denot) (vs : List Val)
         → ((b o : ℕ) (h : Val) → d.at ≡ block_ptr b o → vs ≡ two (block_ptr b o) h ∷ [] → Good (layout Z) h
         → Seq K 𝓛 (‵ (owned d.alloc (block_ptr b o) d.value) ∷ ‵ (Z.own_val d.alloc (h ∷ [])) ∷ Γ) G)

@@ -4,7 +4,7 @@ ghost use Rattle.std.specs.Coded.{coded_option};
 ghost use Rattle.huttavel_c.specs.contracts.sessions.Kept as the_kept;
 ghost use Rattle.huttavel_c.specs.declared.sessions.Kept.{Kept};
 
-use crate::parts::Parts;
+use crate::parts::HeldParts;
 use crate::sessions::Kept;
 use std::alloc::Global;
 use std::marker::Model;
@@ -40,7 +40,7 @@ impl Held {
     pub(crate) fn of(kept: Box<Kept>) -> Held
         ensures { result.value ≡ Some kept.value }
     {
-        Held::of_parts(Parts::of(kept))
+        Held::of_parts(HeldParts::of(kept))
     }
 
     // What it holds.
@@ -52,21 +52,21 @@ impl Held {
     }
 
     // What the parts of a box own.
-    fn of_parts(parts: Parts<Kept, Global>) -> Held
+    fn of_parts(parts: HeldParts<Kept, Global>) -> Held
         ensures { result.value ≡ Some parts.value }
     {
-        let Parts { at, alloc: _ } = parts;
+        let HeldParts { at, alloc: _ } = parts;
         let at = at as *mut u8;
         Held { at }
     }
 
     // The parts of a box again.
-    fn into_parts(self, alloc: Global) -> Parts<Kept, Global>
+    fn into_parts(self, alloc: Global) -> HeldParts<Kept, Global>
         requires { IsSome self.value }
         ensures { self.value ≡ Some result.value }
     {
         let Held { at } = self;
         let at = at as *mut Kept;
-        Parts { at, alloc }
+        HeldParts { at, alloc }
     }
 }

@@ -25,7 +25,7 @@ pub use screen_scripts::{DemoFault, Output, refusals, run, run_as};
 use std::io;
 use std::io::Write;
 use std::process::ExitCode;
-use words::{Task, asked};
+use words::{DemoMode, asked};
 
 // The script on the standard input.
 fn script(rt: &HostRuntime) -> Result<Vec<u8>, DemoFailure> {
@@ -58,20 +58,20 @@ fn at_line(rt: &HostRuntime, script: &[u8], line: u32) -> DemoFailure {
 
 fn perform(
     rt: &HostRuntime,
-    task: Task,
+    task: DemoMode,
     charset: Charset,
     script: &[u8],
 ) -> Result<(), DemoFailure> {
     let output = |is_raw| Output { charset, is_raw };
     match task {
-        Task::Print => draw(rt, output(false), script),
-        Task::Send => {
+        DemoMode::Print => draw(rt, output(false), script),
+        DemoMode::Send => {
             let ended = draw(rt, output(true), script);
             let told = tell_refusals(rt, script);
             ended.and(told)
         }
-        Task::Explain => print(rt, explanation(rt.alloc(), charset, script)),
-        Task::Picture => print(rt, picture(rt.alloc(), charset, script)),
+        DemoMode::Explain => print(rt, explanation(rt.alloc(), charset, script)),
+        DemoMode::Picture => print(rt, picture(rt.alloc(), charset, script)),
     }
 }
 

@@ -14,7 +14,7 @@ const ADVICE: &str = "\n\nFor more information, try '--help'.\n";
 
 /// What is done with the script.
 #[derive(Clone, Copy, PartialEq, Eq)]
-pub enum Task {
+pub enum DemoMode {
     /// The screen is printed.
     Print,
     /// The terminal's bytes are sent.
@@ -29,7 +29,7 @@ pub enum Task {
 #[derive(Clone, Copy, PartialEq, Eq)]
 pub struct Request {
     /// What is done with the script.
-    pub task: Task,
+    pub task: DemoMode,
     /// The terminal's charset.
     pub charset: Charset,
     /// Whether it is said why a line is not a command.
@@ -120,13 +120,13 @@ fn version_wanted<'a>(alloc: Global) -> Arg<'a> {
 fn asked_in(alloc: Global, version: &str, words: &[String]) -> Result<Request, clap::Error> {
     let matches = command(alloc, version)?.try_get_matches_from(words)?;
     let task = if matches.get_flag("explain") {
-        Task::Explain
+        DemoMode::Explain
     } else if matches.get_flag("picture") {
-        Task::Picture
+        DemoMode::Picture
     } else if matches.get_flag("raw") {
-        Task::Send
+        DemoMode::Send
     } else {
-        Task::Print
+        DemoMode::Print
     };
     let charset = if matches.get_flag("utf8") {
         Charset::Utf8

@@ -9,8 +9,8 @@ use Rattle.terminal.specs.Inputs.{empty_input, failed_input, heard, sudden_after
 use Rattle.terminal.specs.Sizes.{Finds, SaySize}
 use Rattle.terminal.specs.declared.input.Input.{Input}
 use Rattle.terminal.specs.declared.input.Input.TheVariants.{Bytes, Failed}
-use Rattle.terminal.specs.declared.sizes.Told.{Told}
-use Rattle.terminal.specs.declared.sizes.Told.TheVariants as told
+use Rattle.terminal.specs.declared.sizes.SizeMessage.{SizeMessage}
+use Rattle.terminal.specs.declared.sizes.SizeMessage.TheVariants as told
 
 -- The terminal's size, if anything says what it is; whether the program is asked to end, and to stop; how many empty
 -- reads in a row were sudden; and whether there is a folder through which the line is told anything.
@@ -22,7 +22,7 @@ pub record LineView : Type 0 where
   pub has_folder : Bool
 
 -- The line once it was told this: a size is the new one, and ends a stop; an end stays.
-abbrev pub after_told : LineView → Told → LineView
+abbrev pub after_told : LineView → SizeMessage → LineView
 after_told line (told.Size size) = record line { size = Some size; is_stopping = false }
 after_told line told.End = record line { is_ending = true }
 after_told line told.Stop = record line { is_stopping = true }
@@ -30,7 +30,7 @@ after_told line told.Nothing = line
 
 -- A look at the folder told something; without a folder, nothing.
 pub record IsLook (old new : LineView) : Type 0 where
-  pub said : Told
+  pub said : SizeMessage
   pub silent : old.has_folder ≡ false → said ≡ told.Nothing
   pub taken : new ≡ after_told old said
 

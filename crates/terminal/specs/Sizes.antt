@@ -2,8 +2,8 @@
 use Rattle.std.specs.Prelude.{ℕ, ◌≡◌, ◌≢◌, ◌^◌, ◌<◌, List, [], ◌∷◌, ◌++◌, length, get_or, Option, Some, None, IfSome, IsSome, ◌↔◌, ◌≤◌, min}
 use Rattle.std.specs.Str.Parse.{IsNumeral, digits_value, without_leading_plus}
 use Rattle.scr_cells.specs.declared.sizes.Size.{Size}
-use Rattle.terminal.specs.declared.sizes.Told.{Told}
-use Rattle.terminal.specs.declared.sizes.Told.TheVariants as told
+use Rattle.terminal.specs.declared.sizes.SizeMessage.{SizeMessage}
+use Rattle.terminal.specs.declared.sizes.SizeMessage.TheVariants as told
 
 -- What is found is what is looked for; nothing is found where there is no such thing.
 abbrev pub Finds : {A : Type 0} → (A → Type 0) → Option A → Type 0
@@ -51,7 +51,7 @@ abbrev pub stop_line : List ℕ
 stop_line = 115 ∷ 116 ∷ 111 ∷ 112 ∷ 10 ∷ []
 
 -- What a text tells: the size that it tells, the end, a stop, or nothing where it tells none of these.
-abbrev pub Tells : List ℕ → Told → Type 0
+abbrev pub Tells : List ℕ → SizeMessage → Type 0
 Tells text (told.Size size) = TellsSize text size
 Tells text told.End = text ≡ end_line
 Tells text told.Stop = text ≡ stop_line

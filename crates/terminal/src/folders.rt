@@ -2,7 +2,7 @@
 ghost use Rattle.std.specs.Prelude.{◌≡◌, false, IfErr, IfOk, ltb};
 ghost use Rattle.std.specs.Io.{ReadsAtMost};
 
-use crate::sizes::{Told, told_of};
+use crate::sizes::{SizeMessage, told_of};
 use scr_cells::NoMemory;
 use std::alloc::Global;
 use std::fs::File;
@@ -31,7 +31,7 @@ impl Folder {
     }
 
     /// What its file `size` says now.
-    pub(crate) fn told<R: Files>(&self, rt: &R) -> Told {
+    pub(crate) fn told<R: Files>(&self, rt: &R) -> SizeMessage {
         let mut text = [0u8; 32];
         let read = read_piece(rt, self.size.as_str(), &mut text);
         told_of(read, &text)

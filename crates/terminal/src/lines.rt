@@ -9,7 +9,7 @@ ghost use Rattle.terminal.specs.Sizes.{Finds, SaySize};
 use crate::folders::Folder;
 use crate::input::{Input, empty_input, failed_input, heard, sudden_after};
 use crate::outputs::TerminalOutput;
-use crate::sizes::{Told, size_said};
+use crate::sizes::{SizeMessage, size_said};
 use crate::variables::{said_by, text_of};
 use scr_cells::{NoMemory, Size};
 use std::fs::File;
@@ -146,23 +146,23 @@ impl TerminalLine {
     {
         let told = match &self.folder {
             Some(folder) => folder.told(rt),
-            None => Told::Nothing,
+            None => SizeMessage::Nothing,
         };
         self.take(told);
     }
 
     // Adopts what the folder said.
-    fn take(&mut self, told: Told)
+    fn take(&mut self, told: SizeMessage)
         ensures { self.new ≡ after_told self.old told }
     {
         match told {
-            Told::Size(size) => {
+            SizeMessage::Size(size) => {
                 self.size = Some(size);
                 self.is_stopping = false;
             }
-            Told::End => self.is_ending = true,
-            Told::Stop => self.is_stopping = true,
-            Told::Nothing => {}
+            SizeMessage::End => self.is_ending = true,
+            SizeMessage::Stop => self.is_stopping = true,
+            SizeMessage::Nothing => {}
         }
     }
 

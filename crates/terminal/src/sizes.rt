@@ -1,14 +1,14 @@
 //! Sizes of terminals as text.
 ghost use Rattle.std.specs.Prelude.{◌≡◌, ◌≢◌, ◌∷◌, ◌++◌, [], List, ℕ, IfErr, IfOk, MatchOption, length, take, ◌≤◌};
 ghost use Rattle.terminal.specs.Sizes.{AreFields, Finds, IsCapped, IsNumber, SaySize, Tells, TellsSize};
-ghost use Rattle.terminal.specs.declared.sizes.Told.TheVariants as Told;
+ghost use Rattle.terminal.specs.declared.sizes.SizeMessage.TheVariants as SizeMessage;
 
 use scr_cells::Size;
 use std::io;
 
 /// What the file `size` says.
 #[derive(Clone, Copy, Debug, PartialEq, Eq)]
-pub(crate) enum Told {
+pub(crate) enum SizeMessage {
     /// The terminal has this size.
     Size(Size),
     /// The program is to end.
@@ -20,41 +20,41 @@ pub(crate) enum Told {
 }
 
 /// What one read of the file `size` tells, which is the beginning of the piece; nothing if it failed.
-pub(crate) fn told_of(read: io::Result<usize>, piece: &[u8]) -> Told
+pub(crate) fn told_of(read: io::Result<usize>, piece: &[u8]) -> SizeMessage
     requires { IfOk read (λ count. count ≤ length piece.now) }
     ensures read { IfOk read (λ count. Tells (take count piece.now) result) }
-    ensures failed { IfErr read (λ _. result ≡ Told.Nothing) }
+    ensures failed { IfErr read (λ _. result ≡ SizeMessage.Nothing) }
 {
     match read {
         Ok(count) => told_by(&piece[..count]),
-        Err(_) => Told::Nothing,
+        Err(_) => SizeMessage::Nothing,
     }
 }
 
 /// What a text tells: the size of the line `ROWS COLUMNS`, the end that the line `end` asks for, or the stop that `stop`
 /// asks for.
-pub(crate) fn told_by(text: &[u8]) -> Told
+pub(crate) fn told_by(text: &[u8]) -> SizeMessage
     ensures { Tells text.now result }
 {
     match str::from_utf8(text) {
         Ok(line) => told_in(line),
-        Err(_) => Told::Nothing,
+        Err(_) => SizeMessage::Nothing,
     }
 }
 
 // The same of a line.
-fn told_in(line: &str) -> Told
+fn told_in(line: &str) -> SizeMessage
     ensures { Tells line.now result }
 {
     if line == "end\n" {
-        return Told::End;
+        return SizeMessage::End;
     }
     if line == "stop\n" {
-        return Told::Stop;
+        return SizeMessage::Stop;
     }
     match size_told(line) {
-        Some(size) => Told::Size(size),
-        None => Told::Nothing,
+        Some(size) => SizeMessage::Size(size),
+        None => SizeMessage::Nothing,
     }
 }
 

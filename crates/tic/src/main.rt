@@ -41,7 +41,7 @@ use std::{env, io};
 use ti_compile::{TicFault, list};
 use ti_database::first_folder;
 use ti_extended::{WholeEntry, WholeFault, decode_whole, print_whole};
-use words::Task;
+use words::TicCommand;
 
 fn main(rt: HostRuntime) -> ExitCode {
     let ended = match words_given(&rt) {
@@ -135,12 +135,16 @@ fn wanted(matches: &ArgMatches<'_>) -> Wanted {
     }
 }
 
-fn run<'a>(rt: &HostRuntime, task: Task<'a>, wanted: Wanted) -> Result<(), Failure<'a>> {
+fn run<'a>(rt: &HostRuntime, task: TicCommand<'a>, wanted: Wanted) -> Result<(), Failure<'a>> {
     match task {
-        Task::Sizes(file) => compile(rt, Purpose::Sizes, file, wanted),
-        Task::Files(directory, file) => compile(rt, Purpose::Files(directory), file, wanted),
-        Task::Listing(file) if wanted.extended => print_whole_listing(rt, file, wanted.verbose),
-        Task::Listing(file) => print_listing(rt, file, wanted.verbose),
+        TicCommand::Sizes(file) => compile(rt, Purpose::Sizes, file, wanted),
+        TicCommand::Files(directory, file) => compile(rt, Purpose::Files(directory), file, wanted),
+        TicCommand::Listing(file) if wanted.extended => print_whole_listing(
+            rt,
+            file,
+            wanted.verbose,
+        ),
+        TicCommand::Listing(file) => print_listing(rt, file, wanted.verbose),
     }
 }
 

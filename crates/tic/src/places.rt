@@ -6,7 +6,7 @@ use bstr::ByteSlice;
 
 /// Where a byte of a source is.
 #[derive(Clone, Copy)]
-pub(crate) struct Place<'a> {
+pub(crate) struct SourcePlace<'a> {
     /// The line, counted from 1.
     pub(crate) line: u32,
     /// The column, in bytes, counted from 1.
@@ -16,8 +16,8 @@ pub(crate) struct Place<'a> {
 }
 
 /// Where the byte at an offset is.
-pub(crate) fn place_at(source: &[u8], offset: usize) -> Place<'_> {
-    let mut place = Place {
+pub(crate) fn place_at(source: &[u8], offset: usize) -> SourcePlace<'_> {
+    let mut place = SourcePlace {
         line: 0,
         column: 1,
         names: None,

@@ -35,7 +35,7 @@ pub(crate) fn faulty_use(
     index: usize,
 ) -> Result<Option<usize>, AllocError> {
     let entries = EntryIndex::new(alloc, source)?;
-    Walk::new(alloc, &entries)?.faulty_use(index)
+    UseWalk::new(alloc, &entries)?.faulty_use(index)
 }
 
 // A reference name: its offset in the source, and the index of its entry.
@@ -152,7 +152,7 @@ enum Mark {
 }
 
 #[derive(Clone, Copy)]
-enum Task {
+enum UseTask {
     /// Follow the use at an offset.
     Follow(usize),
     /// Leave an entry whose uses are followed.
@@ -161,17 +161,17 @@ enum Task {
 
 // How far each entry is, and what is left to do, the next task last.
 #[derive(Drop)]
-struct Walk<'a> {
+struct UseWalk<'a> {
     entries: &'a EntryIndex<'a>,
     marks: Vec<Mark>,
-    tasks: Vec<Task>,
+    tasks: Vec<UseTask>,
     /// The uses of the entry that is entered.
     uses: Vec<usize>,
 }
 
-impl<'a> Walk<'a> {
-    fn new(alloc: Global, entries: &'a EntryIndex<'a>) -> Result<Walk<'a>, AllocError> {
-        Ok(Walk {
+impl<'a> UseWalk<'a> {
+    fn new(alloc: Global, entries: &'a EntryIndex<'a>) -> Result<UseWalk<'a>, AllocError> {
+        Ok(UseWalk {
             entries,
             marks: vec![in alloc; Mark::New; entries.starts.len()]?,
             tasks: Vec::new(alloc),
@@ -185,8 +185,8 @@ impl<'a> Walk<'a> {
         self.enter(index)?;
         for _ in 0..=self.entries.source.len() {
             match self.tasks.pop() {
-                Some(Task::Leave(left)) => self.mark(left, Mark::Done),
-                Some(Task::Follow(offset)) => {
+                Some(UseTask::Leave(left)) => self.mark(left, Mark::Done),
+                Some(UseTask::Follow(offset)) => {
                     if self.is_faulty(offset)? {
                         return Ok(Some(offset));
                     }
@@ -223,9 +223,9 @@ impl<'a> Walk<'a> {
         self.mark(index, Mark::Open);
         self.uses.clear();
         self.entries.add_uses_of(index, &mut self.uses)?;
-        self.tasks.push(Task::Leave(index))?;
+        self.tasks.push(UseTask::Leave(index))?;
         for offset in self.uses.iter().rev() {
-            self.tasks.push(Task::Follow(*offset))?;
+            self.tasks.push(UseTask::Follow(*offset))?;
         }
         Ok(())
     }

@@ -5,7 +5,7 @@ use std::alloc::{AllocError, Global};
 
 /// What the command line asks for.
 #[derive(Clone, Copy)]
-pub(crate) enum Task<'a> {
+pub(crate) enum TicCommand<'a> {
     /// Print the sizes of a source's compiled files.
     Sizes(&'a str),
     /// Write the compiled files of a source below a folder.
@@ -99,15 +99,15 @@ fn forms<'a>(alloc: Global) -> Result<ArgGroup<'a>, AllocError> {
 }
 
 /// What a parsed command line asks for, if anything.
-pub(crate) fn task_of<'a>(matches: &ArgMatches<'a>) -> Option<Task<'a>> {
+pub(crate) fn task_of<'a>(matches: &ArgMatches<'a>) -> Option<TicCommand<'a>> {
     if let Some(file) = matches.get_str("sizes") {
-        return Some(Task::Sizes(file));
+        return Some(TicCommand::Sizes(file));
     }
     if let Some(file) = matches.get_str("listing") {
-        return Some(Task::Listing(file));
+        return Some(TicCommand::Listing(file));
     }
     match matches.get_strs("files")? {
-        [directory, file] => Some(Task::Files(directory, file)),
+        [directory, file] => Some(TicCommand::Files(directory, file)),
         _ => None,
     }
 }

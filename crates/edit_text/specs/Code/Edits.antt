@@ -1,6 +1,6 @@
 -- What is kept of an edit, and what undoing it gives.
 use Rattle.std.specs.Prelude.{◌≡◌, ℕ, suc, ◌+◌, ◌<◌, ◌≤◌, List, [], ◌∷◌, length}
-use Rattle.edit_text.specs.declared.places.Place.{Place}
+use Rattle.edit_text.specs.declared.places.TextPlace.{TextPlace}
 use Rattle.edit_text.specs.declared.edits.Edit.{Edit}
 use Rattle.edit_text.specs.declared.edits.Edit.TheVariants.{Inserted, Deleted, Split, Joined}
 use Rattle.edit_text.specs.Lines.{line_at, inserted, removed, split_at, joined}
@@ -8,7 +8,7 @@ use Rattle.edit_text.specs.Parts.{spelled}
 use Rattle.edit_text.specs.Texts.{Step}
 
 -- where an edit was made
-abbrev pub place_of : Edit → Place
+abbrev pub place_of : Edit → TextPlace
 place_of (Inserted place part) = place
 place_of (Deleted place part) = place
 place_of (Split place) = place
@@ -43,7 +43,7 @@ CanUndoAll [] lines = Unit {0}
 CanUndoAll (edit ∷ edits) lines = CanUndo edit lines × CanUndoAll edits (undone edit lines)
 
 -- this is the edit at a place that led from the old lines to the new ones
-pub record Undoes (edit : Edit) (place : Place) (old new : List (List ℕ)) : Type 0 where
+pub record Undoes (edit : Edit) (place : TextPlace) (old new : List (List ℕ)) : Type 0 where
   pub at : place_of edit ≡ place
   pub can : CanUndo edit new
   pub back : undone edit new ≡ old

@@ -31,10 +31,10 @@ use Rattle.std.proofs.raw_atomic.Walks.{proved_at, leaves}
 use Rattle.std.specs.contracts.boxed.Box.into_raw_with_allocator as opening
 use Rattle.std.proofs.boxed.Box.into_raw_with_allocator.Met.{met}
 use Rattle.huttavel_c.proofs.Shapes.{calls_frame, two, two_typed, owned, placed, parts_in}
-use Rattle.huttavel_c.specs.contracts.parts.Parts.of.{ended, clauses}
-use Rattle.huttavel_c.specs.contracts.parts.Parts.of.Key.{name as #self}
-use Rattle.huttavel_c.proofs.parts.Parts.of.Statement.{statement}
-use Rattle.huttavel_c.proofs.parts.Parts.of.Code as code
+use Rattle.huttavel_c.specs.contracts.parts.HeldParts.of.{ended, clauses}
+use Rattle.huttavel_c.specs.contracts.parts.HeldParts.of.Key.{name as #self}
+use Rattle.huttavel_c.proofs.parts.HeldParts.of.Statement.{statement}
+use Rattle.huttavel_c.proofs.parts.HeldParts.of.Code as code
 
 pub of_spec : {M : Type 1} → statement M
 of_spec 𝓤 𝓛 𝓜 𝓡 wired T A LT LA g d dt da allocator glue_t glue_a =

@@ -33,10 +33,10 @@ use Rattle.std.proofs.raw_atomic.Walks.{proved_at, leaves}
 use Rattle.std.specs.contracts.boxed.Box.from_raw as closing
 use Rattle.std.proofs.boxed.Box.from_raw.Met.{met}
 use Rattle.huttavel_c.proofs.Shapes.{calls_frame, two, two_typed, Pieces, parts_out}
-use Rattle.huttavel_c.specs.contracts.parts.Parts.into_box.{ended, clauses}
-use Rattle.huttavel_c.specs.contracts.parts.Parts.into_box.Key.{name as #self}
-use Rattle.huttavel_c.proofs.parts.Parts.into_box.Statement.{statement}
-use Rattle.huttavel_c.proofs.parts.Parts.into_box.Code as code
+use Rattle.huttavel_c.specs.contracts.parts.HeldParts.into_box.{ended, clauses}
+use Rattle.huttavel_c.specs.contracts.parts.HeldParts.into_box.Key.{name as #self}
+use Rattle.huttavel_c.proofs.parts.HeldParts.into_box.Statement.{statement}
+use Rattle.huttavel_c.proofs.parts.HeldParts.into_box.Code as code
 
 pub into_box_spec : {M : Type 1} → statement M
 into_box_spec 𝓤 𝓛 𝓜 𝓡 wired T A LT LA g d dt da allocator glue_t glue_a =

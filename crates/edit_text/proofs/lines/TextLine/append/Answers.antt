@@ -1,5 +1,5 @@
 use Rattle.std.proofs.Common.{rules}
-use Rattle.edit_text.proofs.lines.Line.append.Goals as goal
+use Rattle.edit_text.proofs.lines.TextLine.append.Goals as goal
 
 pub returns-clause-ok : goal.returns-clause-ok
 returns-clause-ok c = search rules
