@@ -66,12 +66,6 @@ built() {
     done
 }
 
-# The crates of the examples list, clock and session: one with a word for each, or one for each. example WORD is where
-# one is, and word WORD its first word on the command line, if it has one.
-examples() { crates | grep -x 'hello\|hello_list\|hello_clock\|hello_session'; }
-example() { if [ -d crates/hello/src ]; then program hello; else program "hello_$1"; fi; }
-word() { [ ! -d crates/hello/src ] || echo "$1"; }
-
 # refusing NAME..: compiles what forces writes or allocations of a program to fail (tests/NAME.c) to $work/NAME.so.
 refusing() {
     local library

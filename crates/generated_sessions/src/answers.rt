@@ -1,6 +1,6 @@
 //! Answers of calls on a screen, in words.
 
-use check_harness::answers::{add_name, add_number, add_place, add_word};
+use check_harness::answers::{add_count, add_name, add_number, add_place, add_word};
 use check_harness::buffers::Buffer;
 use curses::{SendFault, UpdateFault};
 use scr_term::{Op, Spot};
@@ -52,11 +52,6 @@ fn add_failure(what: &str, kind: ErrorKind, counts: &[u64], got: &mut Buffer) {
     for count in counts {
         add_count(*count, got);
     }
-}
-
-/// Adds a count.
-pub fn add_count(count: u64, got: &mut Buffer) {
-    add_number(i64::try_from(count).unwrap_or(-1), got);
 }
 
 /// Adds `Ok`, or that what was executed or read is undefined.

@@ -18,7 +18,7 @@ mod repaints;
 mod sessions;
 mod writers;
 
-pub use answers::{add_count, add_defined, add_spot};
+pub use answers::{add_defined, add_spot};
 pub use calls::obey;
 pub use cuts::count_cuts;
 pub use emulated::{Emulated, step_on};

@@ -1,13 +1,12 @@
 //! Sessions that are made up: what a program does with windows, pads, colours, marks and wishes, and updates that fail
 //! now and then, or are cut after each number of their bytes.
 
-use crate::answers::add_count;
 use crate::calls::obey;
 use crate::cuts::count_cuts;
 use crate::entries::read_entry;
 use crate::made_up::{add_line, add_line_beyond, add_taking};
 use crate::recorded::Recorded;
-use check_harness::answers::{add_number, add_text, add_word};
+use check_harness::answers::{add_count, add_number, add_text, add_word};
 use check_harness::buffers::Buffer;
 use check_harness::random::Random;
 use check_harness::troubles::Trouble;
