@@ -3,7 +3,7 @@ use Rattle.std.proofs.Common.{◌≡◌, ◌≢◌, ℕ, ◌<◌, ◌==◌, refl
 use Rattle.std.specs.List.{slice_split}
 use Rattle.std.proofs.lemmas.List.Splits.{length-slice_split}
 use Rattle.screen_scripts.specs.Lines.{lines_of, without_empty_end}
-use Rattle.screen_sessions.specs.Fields.{parts_after}
+use Rattle.screen_calls.specs.Fields.{parts_after}
 
 -- ---- lines
 

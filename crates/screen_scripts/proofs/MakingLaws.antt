@@ -20,8 +20,8 @@ use Rattle.scr_windows.specs.declared.faults.WinFault.TheVariants as faults
 use Rattle.screen_sessions.specs.declared.answers.Answer.{Answer}
 use Rattle.screen_sessions.specs.declared.answers.Answer.TheVariants.{Refused}
 use Rattle.screen_sessions.specs.declared.answers.Answer.TheVariants as answers
-use Rattle.screen_sessions.specs.declared.calls.Call.{Call}
-use Rattle.screen_sessions.specs.declared.calls.Call.TheVariants.{AddStr, AddText, MoveCursor, Noutrefresh}
+use Rattle.screen_calls.specs.declared.calls.Call.{Call}
+use Rattle.screen_calls.specs.declared.calls.Call.TheVariants.{AddStr, AddText, MoveCursor, Noutrefresh}
 use Rattle.curses.specs.declared.faults.Sent.{Sent as SentView}
 use Rattle.screen_sessions.specs.Calls.{told}
 use Rattle.screen_sessions.specs.Making.{IsMade, drawn_of}

@@ -3,8 +3,8 @@ use Rattle.std.specs.Prelude.{ℕ, List, [], ◌∷◌, Option, Some, None, opti
 use Rattle.std.specs.Str.{bytes_eq}
 use Rattle.screen_scripts.specs.declared.commands.Command.{Command}
 use Rattle.screen_scripts.specs.declared.commands.Command.TheVariants.{Size, Add, Show, Make, Key, Text, Idle}
-use Rattle.screen_sessions.specs.Fields.{cut, field_and_text, hexadecimal_bytes, number}
-use Rattle.screen_sessions.specs.ShortCalls.{call_of}
+use Rattle.screen_calls.specs.Fields.{cut, field_and_text, hexadecimal_bytes, number}
+use Rattle.screen_calls.specs.ShortCalls.{call_of}
 
 -- a word alone
 abbrev pub word_alone : Command → Option (List ℕ) → Option Command

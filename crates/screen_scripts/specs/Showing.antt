@@ -19,7 +19,7 @@ use Rattle.scr_windows.specs.declared.faults.WinFault.{WinFault}
 use Rattle.scr_windows.specs.declared.faults.WinFault.TheVariants as faults
 use Rattle.screen_sessions.specs.declared.answers.Answer.{Answer}
 use Rattle.screen_sessions.specs.declared.answers.Answer.TheVariants as answers
-use Rattle.screen_sessions.specs.declared.calls.Call.{Call}
+use Rattle.screen_calls.specs.declared.calls.Call.{Call}
 use Rattle.screen_sessions.specs.Making.{drawn_of}
 use Rattle.curses.specs.ScreenStates.{ScreenState}
 use Rattle.screen_sessions.specs.Sessions.{begun_of, marked_by, memory_marked}

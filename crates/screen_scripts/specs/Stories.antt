@@ -18,8 +18,8 @@ use Rattle.ti_caps.specs.Bundled.{bundled_names, bundled_texts, listed}
 use Rattle.ti_caps.specs.Description.{Description, bare}
 use Rattle.screen_sessions.specs.declared.answers.Answer.{Answer}
 use Rattle.screen_sessions.specs.declared.answers.Answer.TheVariants as answers
-use Rattle.screen_sessions.specs.declared.calls.Call.{Call}
-use Rattle.screen_sessions.specs.declared.calls.Call.TheVariants.{AddText, MoveCursor, Noutrefresh}
+use Rattle.screen_calls.specs.declared.calls.Call.{Call}
+use Rattle.screen_calls.specs.declared.calls.Call.TheVariants.{AddText, MoveCursor, Noutrefresh}
 use Rattle.screen_sessions.specs.Calls.{told}
 use Rattle.screen_sessions.specs.Sessions.{Drawn, first_drawn, is_update, marked_by, screen_call, windows_told}
 use Rattle.scr_windows.specs.Calls.Adding.{add_str_call}

@@ -2,11 +2,11 @@
 ghost use Rattle.std.specs.Prelude.{◌≡◌, None, Some, IfOk, IsErrOf};
 ghost use Rattle.std.specs.Option.{option_copied};
 ghost use Rattle.screen_scripts.specs.Commands.{addition, command_of, key_bytes, size_read, string_command, word_alone};
-ghost use Rattle.screen_sessions.specs.Fields.{number as number_of};
-ghost use Rattle.screen_sessions.specs.Reading.{IsRefused, read};
+ghost use Rattle.screen_calls.specs.Fields.{number as number_of};
+ghost use Rattle.screen_calls.specs.Reading.{IsRefused, read};
 
 use crate::LineFault;
-use screen_sessions::{
+use screen_calls::{
     Call, CallFault, Reason, copied, count_fault_of, cut_field, field_and_text, hexadecimal_bytes,
     number, read_call,
 };

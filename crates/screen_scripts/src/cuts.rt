@@ -2,7 +2,7 @@
 ghost use Rattle.std.specs.Prelude.{◌≡◌, ◌∷◌, ◌<◌, length};
 ghost use Rattle.screen_scripts.specs.Lines.{lines_of};
 
-use screen_sessions::cut_at;
+use screen_calls::cut_at;
 
 /// The first line of a script, which must not be empty, and what follows the line's end.
 pub fn cut_line(script: &[u8]) -> (&[u8], &[u8])

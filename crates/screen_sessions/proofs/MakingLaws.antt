@@ -14,8 +14,8 @@ use Rattle.scr_windows.specs.DeskViews.{DeskView}
 use Rattle.scr_virtual.specs.VirtualViews.{VirtualView}
 use Rattle.screen_sessions.specs.declared.answers.Answer.{Answer}
 use Rattle.screen_sessions.specs.declared.answers.Answer.TheVariants.{Nothing, Refused, Sent, Made, Added, Seen, Pair, Touched, Failed}
-use Rattle.screen_sessions.specs.declared.calls.Call.{Call}
-use Rattle.screen_sessions.specs.declared.calls.Call.TheVariants.{RedrawWindow, RedrawLines, Doupdate}
+use Rattle.screen_calls.specs.declared.calls.Call.{Call}
+use Rattle.screen_calls.specs.declared.calls.Call.TheVariants.{RedrawWindow, RedrawLines, Doupdate}
 use Rattle.screen_sessions.specs.Calls.{OnDeskOrRefused, answered, is_refusal, is_told, window_call}
 use Rattle.curses.specs.Cuts.{IsCut}
 use Rattle.curses.specs.declared.faults.Sent.{Sent as SentView}

@@ -6,7 +6,7 @@ use Rattle.scr_term.specs.Operations.Profiles.{ProfileView, abilities}
 use Rattle.scr_term.specs.Operations.States.{TerminalState}
 use Rattle.scr_memory.specs.Memories.{IsDisturbance, MemoryLaws, MemoryView, is_known_row}
 use Rattle.screen_sessions.specs.declared.answers.Answer.{Answer}
-use Rattle.screen_sessions.specs.declared.calls.Call.{Call}
+use Rattle.screen_calls.specs.declared.calls.Call.{Call}
 use Rattle.screen_sessions.specs.Sessions.{Drawn, DisturbedRowsHoldAgain, after_call, has_mark, is_marked, is_row_of, is_update, marked_by, memory_then, memory_marked, memory_updated, remembered_after}
 
 no_bool : false ≡ true → ⊥

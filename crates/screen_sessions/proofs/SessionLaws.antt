@@ -19,8 +19,8 @@ use Rattle.scr_plan.specs.Repaints.{joined_of}
 use Rattle.scr_plan.specs.Scratch.{RunsToShow}
 use Rattle.screen_sessions.specs.declared.answers.Answer.{Answer}
 use Rattle.screen_sessions.specs.declared.answers.Answer.TheVariants.{Added, Failed, Made, Nothing, Pair, Refused, Seen, Sent, Touched}
-use Rattle.screen_sessions.specs.declared.calls.Call.{Call}
-use Rattle.screen_sessions.specs.declared.calls.Call.TheVariants.{Doupdate}
+use Rattle.screen_calls.specs.declared.calls.Call.{Call}
+use Rattle.screen_calls.specs.declared.calls.Call.TheVariants.{Doupdate}
 use Rattle.screen_sessions.specs.Code.Progress.{AreMadeAfresh, IsFresh, Reached, SoFar}
 use Rattle.screen_sessions.specs.Making.{IsMade, drawn_of}
 use Rattle.curses.specs.ScreenStates.{ScreenState}

@@ -2,8 +2,5 @@
 pub mod Calls
 pub mod Code
 pub mod Faulty
-pub mod Fields
 pub mod Making
-pub mod Reading
 pub mod Sessions
-pub mod ShortCalls

@@ -1,7 +1,7 @@
 -- What one call does to a screen and its writer.
 use Rattle.std.specs.Prelude.{true, false, ◌≡◌, ◌≢◌, [], Some}
 use Rattle.screen_sessions.specs.declared.answers.Answer.{Answer}
-use Rattle.screen_sessions.specs.declared.calls.Call.{Call}
+use Rattle.screen_calls.specs.declared.calls.Call.{Call}
 use Rattle.curses.specs.ScreenStates.{ScreenState}
 use Rattle.screen_sessions.specs.Sessions.{Drawn, IsAnswer, after_call, begun_of, count_of, finishes_after, is_cut, is_update, memory_then, tells_sent}
 use Rattle.scr_memory.specs.Memories.{Agrees, MayBe, is_known}

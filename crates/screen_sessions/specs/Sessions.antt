@@ -26,8 +26,8 @@ use Rattle.scr_plan.specs.Repaints.{joined_of}
 use Rattle.scr_keys.specs.Tables.{too_long}
 use Rattle.screen_sessions.specs.declared.answers.Answer.{Answer}
 use Rattle.screen_sessions.specs.declared.answers.Answer.TheVariants.{Failed, Nothing, Refused, Sent}
-use Rattle.screen_sessions.specs.declared.calls.Call.{Call}
-use Rattle.screen_sessions.specs.declared.calls.Call.TheVariants.{Doupdate, Noutrefresh, PadNoutrefresh, RedrawLines, RedrawWindow, SetPair, SetPairOf}
+use Rattle.screen_calls.specs.declared.calls.Call.{Call}
+use Rattle.screen_calls.specs.declared.calls.Call.TheVariants.{Doupdate, Noutrefresh, PadNoutrefresh, RedrawLines, RedrawWindow, SetPair, SetPairOf}
 use Rattle.curses.specs.Adapted.{AdaptedView, IsAnySizeOn}
 use Rattle.curses.specs.Opening.{default_opening, served}
 use Rattle.curses.specs.declared.opening.Opening.{Opening}

@@ -1,6 +1,6 @@
 //! Sessions: lists of calls on one screen. The definitions are in `specs/Sessions.antt`.
 ghost use Rattle.std.specs.Prelude.{◌≡◌, IfErr, IfOk, IsErrOf, OnErr, false};
-ghost use Rattle.screen_sessions.specs.declared.calls.Call.TheVariants.{Doupdate};
+ghost use Rattle.screen_calls.specs.declared.calls.Call.TheVariants.{Doupdate};
 ghost use Rattle.screen_sessions.specs.Code.Progress.{AreMadeAfresh, IsFresh};
 ghost use Rattle.screen_sessions.specs.Making.{IsMade};
 ghost use Rattle.curses.specs.Adapted.{IsUnopenedAdapted};
@@ -9,12 +9,13 @@ ghost use Rattle.scr_term.specs.Operations.Admission.{IsSuitable};
 ghost use Rattle.screen_sessions.specs.Sessions.{AreMade, DisturbedRowsHoldAgain, IsReport, IsReportAdapted, IsReportAs, ended_well, is_update};
 
 use crate::answers::{Answer, done_answer};
-use crate::calls::{Call, make_window_call};
+use crate::calls::make_window_call;
 use curses::{AdaptedEntry, Counted, OpenFault, Opening, Screen};
 use scr_cells::{NoMemory, Size};
 use scr_memory::{known_memories, memory_laws, memory_runs};
 use scr_plan::plan_is_cheap;
 use scr_term::{bytes_act_as_their_operations, run_laws};
+use screen_calls::Call;
 use std::alloc::Global;
 use std::marker::Model;
 use ti_caps::Entry;

@@ -8,9 +8,9 @@ use Rattle.scr_term.specs.Operations.States.{TerminalState, IsState}
 use Rattle.scr_term.specs.Operations.Steps.{runs}
 use Rattle.scr_term.specs.Operations.Texts.{all_bytes}
 use Rattle.screen_sessions.specs.declared.answers.Answer.TheVariants.{Nothing}
-use Rattle.screen_sessions.specs.declared.calls.Call.TheVariants.{Doupdate}
+use Rattle.screen_calls.specs.declared.calls.Call.TheVariants.{Doupdate}
 use Rattle.screen_sessions.specs.declared.answers.Answer.{Answer}
-use Rattle.screen_sessions.specs.declared.calls.Call.{Call}
+use Rattle.screen_calls.specs.declared.calls.Call.{Call}
 use Rattle.scr_memory.specs.Memories.{Agrees, MemoryView}
 use Rattle.screen_sessions.specs.Making.{drawn_of}
 use Rattle.curses.specs.ScreenStates.{ScreenState}

@@ -1,6 +1,6 @@
 use Rattle.std.proofs.Common.{ap, ◌∙◌, ◌∷◌, rules}
 use Rattle.std.specs.Option.{option_copied}
-use Rattle.screen_sessions.specs.Fields.{parts_after}
+use Rattle.screen_calls.specs.Fields.{parts_after}
 use Rattle.screen_scripts.proofs.LineLaws.{first_of_more}
 use Rattle.screen_scripts.proofs.cuts.cut_line.Goals as goal
 

@@ -2,7 +2,7 @@ use Rattle.std.proofs.Common.{◌<◌, ◌∙◌, ◌∷◌, [], ap, get_or, fal
 use Rattle.std.proofs.lemmas.List.{length-append}
 use Rattle.screen_sessions.specs.Code.Progress.{SoFar}
 use Rattle.screen_sessions.specs.Sessions.{beginning_of, ended_well, last_ok_after}
-use Rattle.screen_sessions.specs.declared.calls.Call.TheVariants.{Doupdate}
+use Rattle.screen_calls.specs.declared.calls.Call.TheVariants.{Doupdate}
 use Rattle.screen_sessions.proofs.SessionLaws.{item_is, last_more, made_of, none_made, one_more}
 use Rattle.screen_sessions.proofs.sessions.make_calls.Goals as goal
 

@@ -1,6 +1,6 @@
 use Rattle.std.proofs.Common.{◌^◌, arith}
-use Rattle.screen_sessions.proofs.NumberLaws.{value_more}
-use Rattle.screen_sessions.proofs.fields.value_up_to_limit.Goals as goal
+use Rattle.screen_calls.proofs.NumberLaws.{value_more}
+use Rattle.screen_calls.proofs.fields.value_up_to_limit.Goals as goal
 
 pub loop-digit-preserved : goal.loop-digit-preserved
 loop-digit-preserved c =

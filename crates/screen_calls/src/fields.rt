@@ -4,9 +4,9 @@ ghost use Rattle.std.specs.Char.{is_ascii_digit};
 ghost use Rattle.std.specs.List.{list_all};
 ghost use Rattle.std.specs.Option.{option_copied};
 ghost use Rattle.std.specs.Str.Parse.{digits_value};
-ghost use Rattle.screen_sessions.specs.Fields.{cut, field_and_text as field_and_text_of, fields_behind, number as number_of, up_to as up_to_of, integer as integer_of, setting as setting_of, graphic as graphic_of, colour as colour_of, hexadecimal_byte as hexadecimal_byte_of, hexadecimal_bytes as hexadecimal_bytes_of};
+ghost use Rattle.screen_calls.specs.Fields.{cut, field_and_text as field_and_text_of, fields_behind, number as number_of, up_to as up_to_of, integer as integer_of, setting as setting_of, graphic as graphic_of, colour as colour_of, hexadecimal_byte as hexadecimal_byte_of, hexadecimal_bytes as hexadecimal_bytes_of};
 ghost use Rattle.scr_cells.specs.Characters.{IsAscii};
-ghost use Rattle.screen_sessions.specs.Reading.{IsRefused, read};
+ghost use Rattle.screen_calls.specs.Reading.{IsRefused, read};
 
 use crate::call_faults::CallFault;
 use crate::cuts::cut_at;

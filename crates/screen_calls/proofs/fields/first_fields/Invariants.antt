@@ -1,6 +1,6 @@
 use Rattle.std.proofs.Common.{◌≡◌, ◌≤◌, length, map, take}
-use Rattle.screen_sessions.specs.Fields.{fields_of}
-use Rattle.screen_sessions.proofs.fields.first_fields.Given as goal
+use Rattle.screen_calls.specs.Fields.{fields_of}
+use Rattle.screen_calls.proofs.fields.first_fields.Given as goal
 
 abbrev pub invariant-loop-field : goal.invariant-loop-field
 invariant-loop-field l =

@@ -17,7 +17,7 @@ pub enum CallFault<'a> {
 }
 
 impl<'a> From<NoMemory> for CallFault<'a> {
-    ghost use Rattle.screen_sessions.specs.declared.call_faults.CallFault.TheVariants.{NoMemory as Out};
+    ghost use Rattle.screen_calls.specs.declared.call_faults.CallFault.TheVariants.{NoMemory as Out};
 
     ghost from_gives = { λ _ fault. fault ≡ Out };
 
@@ -27,7 +27,7 @@ impl<'a> From<NoMemory> for CallFault<'a> {
 }
 
 impl<'a> From<Reason<'a>> for CallFault<'a> {
-    ghost use Rattle.screen_sessions.specs.declared.call_faults.CallFault.TheVariants.{Bad};
+    ghost use Rattle.screen_calls.specs.declared.call_faults.CallFault.TheVariants.{Bad};
 
     ghost from_gives = { λ reason fault. fault ≡ Bad reason };
 

@@ -2,9 +2,9 @@ use Rattle.std.proofs.Common.{◌≡◌, ◌+◌, eqb, length, map, take, rules,
 use Rattle.std.proofs.lemmas.Iterator.Splits.{YieldsList-from_slice_split}
 use Rattle.std.proofs.lemmas.Iterator.Consumers.{YieldsList-turn, YieldsList-end}
 use Rattle.std.proofs.lemmas.List.{length_push}
-use Rattle.screen_sessions.specs.Fields.{fields_behind, fields_of}
-use Rattle.screen_sessions.proofs.FieldLaws.{has_room, taken_all, taken_more}
-use Rattle.screen_sessions.proofs.fields.first_fields.Goals as goal
+use Rattle.screen_calls.specs.Fields.{fields_behind, fields_of}
+use Rattle.screen_calls.proofs.FieldLaws.{has_room, taken_all, taken_more}
+use Rattle.screen_calls.proofs.fields.first_fields.Goals as goal
 
 pub loop-field-preserved : goal.loop-field-preserved
 loop-field-preserved c =

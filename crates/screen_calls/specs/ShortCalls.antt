@@ -5,9 +5,9 @@ use Rattle.scr_cells.specs.declared.attributes.Attrs.{Attrs}
 use Rattle.scr_cells.specs.CellViews.{CellView}
 use Rattle.scr_windows.specs.declared.calls.borders.TheConstants.{BOX}
 use Rattle.scr_windows.specs.declared.faults.Win.{Win}
-use Rattle.screen_sessions.specs.declared.calls.Call.{Call}
-use Rattle.screen_sessions.specs.declared.calls.Call.TheVariants.{NewWindow, NewPad, Derive, Sub, SubPad, ResizeWindow, Copy, Overlay, Overwrite, Delete, TouchWindow, Untouch, AddByte, AddText, BorderOf, Erase, Clear, Scroll, ChangeBackground, MoveCursor, ScrollOk, AttrSet, ColorSet, SetPairOf, Noutrefresh, PadNoutrefresh, Doupdate}
-use Rattle.screen_sessions.specs.Fields.{cut, colour, field_and_text, fields_behind, graphic, integer, number, setting, up_to}
+use Rattle.screen_calls.specs.declared.calls.Call.{Call}
+use Rattle.screen_calls.specs.declared.calls.Call.TheVariants.{NewWindow, NewPad, Derive, Sub, SubPad, ResizeWindow, Copy, Overlay, Overwrite, Delete, TouchWindow, Untouch, AddByte, AddText, BorderOf, Erase, Clear, Scroll, ChangeBackground, MoveCursor, ScrollOk, AttrSet, ColorSet, SetPairOf, Noutrefresh, PadNoutrefresh, Doupdate}
+use Rattle.screen_calls.specs.Fields.{cut, colour, field_and_text, fields_behind, graphic, integer, number, setting, up_to}
 
 -- what is made of so many fields, each read in its way; nothing of more or fewer
 abbrev pub none_read : {C : Type 0} → C → List (List ℕ) → Option C

@@ -2,7 +2,7 @@
 ghost use Rattle.std.specs.Prelude.{◌≡◌, ◌==◌, ◌∷◌, ◌<◌, None, IfSome, length};
 ghost use Rattle.std.specs.List.{slice_split};
 ghost use Rattle.std.specs.Option.{option_copied};
-ghost use Rattle.screen_sessions.specs.Fields.{parts_after};
+ghost use Rattle.screen_calls.specs.Fields.{parts_after};
 
 /// What precedes the first such byte, and what follows it; `None` if there is none.
 pub fn cut_at(byte: u8, text: &[u8]) -> (&[u8], Option<&[u8]>)

@@ -2,10 +2,10 @@ use Rattle.std.proofs.Common.{eqb, length, take, rules, tests, sym, ap, ◌∙�
 use Rattle.std.proofs.lemmas.Iterator.Splits.{YieldsList-from_slice_split}
 use Rattle.std.proofs.lemmas.Iterator.Consumers.{YieldsList-turn, YieldsList-end}
 use Rattle.std.proofs.lemmas.List.{length_push}
-use Rattle.screen_sessions.specs.Fields.{each, fields_of, hexadecimal_byte, hexadecimal_bytes}
-use Rattle.screen_sessions.specs.Reading.{read}
-use Rattle.screen_sessions.proofs.FieldLaws.{each_more, each_stops, each_all}
-use Rattle.screen_sessions.proofs.fields.hexadecimal_bytes.Goals as goal
+use Rattle.screen_calls.specs.Fields.{each, fields_of, hexadecimal_byte, hexadecimal_bytes}
+use Rattle.screen_calls.specs.Reading.{read}
+use Rattle.screen_calls.proofs.FieldLaws.{each_more, each_stops, each_all}
+use Rattle.screen_calls.proofs.fields.hexadecimal_bytes.Goals as goal
 
 pub returns-in_err-byte-clause-bad : goal.returns-in_err-byte-clause-bad
 unfolding hexadecimal_bytes

@@ -5,7 +5,7 @@ use Rattle.std.specs.List.{slice_split, join_with_byte}
 use Rattle.std.proofs.lemmas.Bool.Decides.{nat_tests}
 use Rattle.std.proofs.lemmas.List.{map-append, take_more, take_all}
 use Rattle.std.proofs.lemmas.List.Splits.{length-slice_split, join_with_byte-slice_split}
-use Rattle.screen_sessions.specs.Fields.{fields_of, first_and_rest, cut, each, parts_after}
+use Rattle.screen_calls.specs.Fields.{fields_of, first_and_rest, cut, each, parts_after}
 
 some_field : (text : List ℕ) → 0 < length (fields_of text)
 some_field text = omega (arith, length-slice_split (λ b. eqb b 32) text)

@@ -1,7 +1,7 @@
 use Rattle.std.proofs.Common.{◌==◌, ◌+◌, ◌∷◌, take, ap, ◌∙◌, arith}
 use Rattle.std.specs.List.{slice_split}
-use Rattle.screen_sessions.proofs.CutLaws.{split_none, split_at, rest_of}
-use Rattle.screen_sessions.proofs.cuts.cut_at.Goals as goal
+use Rattle.screen_calls.proofs.CutLaws.{split_none, split_at, rest_of}
+use Rattle.screen_calls.proofs.cuts.cut_at.Goals as goal
 
 pub returns-then-b-byte-clause-parts : goal.returns-then-b-byte-clause-parts
 returns-then-b-byte-clause-parts c =

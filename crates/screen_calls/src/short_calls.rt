@@ -1,9 +1,9 @@
 //! Calls by the short names that scripts have for them. The definitions are in `specs/ShortCalls.antt`.
 ghost use Rattle.std.specs.Prelude.{◌≡◌, false, map};
-ghost use Rattle.screen_sessions.specs.Fields.{colour as colour_of, graphic as graphic_of, integer as integer_of, number as number_of, setting as setting_of, up_to as up_to_of};
-ghost use Rattle.screen_sessions.specs.Reading.{read};
-ghost use Rattle.screen_sessions.specs.ShortCalls.{attributes, change_call, eight_numbers, five_numbers, four_numbers, one_read, plain_cell, setting_call, seven_numbers, short_call, three_read, two_read, window};
-ghost use Rattle.screen_sessions.specs.declared.calls.Call.TheVariants.{AddByte, AttrSet, ChangeBackground, Copy, Derive, PadNoutrefresh, ResizeWindow, Scroll, ScrollOk, SetPairOf, Sub, SubPad};
+ghost use Rattle.screen_calls.specs.Fields.{colour as colour_of, graphic as graphic_of, integer as integer_of, number as number_of, setting as setting_of, up_to as up_to_of};
+ghost use Rattle.screen_calls.specs.Reading.{read};
+ghost use Rattle.screen_calls.specs.ShortCalls.{attributes, change_call, eight_numbers, five_numbers, four_numbers, one_read, plain_cell, setting_call, seven_numbers, short_call, three_read, two_read, window};
+ghost use Rattle.screen_calls.specs.declared.calls.Call.TheVariants.{AddByte, AttrSet, ChangeBackground, Copy, Derive, PadNoutrefresh, ResizeWindow, Scroll, ScrollOk, SetPairOf, Sub, SubPad};
 
 use crate::calls::Call;
 use crate::fields::{colour, count_fault, graphic, integer, number, setting, up_to};

@@ -1,8 +1,8 @@
 //! Calls as lines: a name, and what the call is given, as scripts, checks and made-up sessions write them.
 ghost use Rattle.std.specs.Prelude.{◌≡◌, IfOk, None, Some};
 ghost use Rattle.std.specs.Option.{option_copied};
-ghost use Rattle.screen_sessions.specs.Reading.{IsRefused};
-ghost use Rattle.screen_sessions.specs.ShortCalls.{call_of, text_call};
+ghost use Rattle.screen_calls.specs.Reading.{IsRefused};
+ghost use Rattle.screen_calls.specs.ShortCalls.{call_of, text_call};
 
 use crate::call_faults::CallFault;
 use crate::calls::Call;
