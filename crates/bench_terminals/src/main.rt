@@ -127,9 +127,18 @@ fn scratch(alloc: Global, size: Size, count: u32) -> Option<usize> {
     let picture = Picture::new(alloc, size).ok()?;
     let mut sum = 0usize;
     for _ in 0..count {
-        sum = sum.wrapping_add(scratch_bytes(alloc, &profile, &picture).ok()?.len());
+        sum = sum.wrapping_add(scratch_once(alloc, &profile, &picture)?);
     }
     Some(sum)
+}
+
+// How many bytes paint a picture from scratch; the profile has its size.
+fn scratch_once(alloc: Global, profile: &Profile, picture: &Picture) -> Option<usize> {
+    let (size, other) = (picture.size(), profile.size());
+    if size.rows != other.rows || size.columns != other.columns {
+        return None;
+    }
+    Some(scratch_bytes(alloc, profile, picture).ok()?.len())
 }
 
 // Does the work that is named on a parameter string.
