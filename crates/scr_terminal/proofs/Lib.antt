@@ -10,4 +10,5 @@ mod EcmaReadingLaws
 mod EcmaSpelledLaws
 mod EcmaStateLaws
 mod EcmaUnitLaws
+mod MarkLaws
 mod WritingLaws

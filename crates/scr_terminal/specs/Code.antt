@@ -2,3 +2,4 @@
 pub mod Readings
 pub mod Changes
 pub mod Writing
+pub mod Marking

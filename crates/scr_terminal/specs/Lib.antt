@@ -2,5 +2,6 @@ pub use Rattle.scr_term.specs.Operations
 pub mod Displays
 pub mod Characters
 pub mod Leading
+pub mod Marks
 pub mod Ecma
 pub mod Code

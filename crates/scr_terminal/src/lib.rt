@@ -5,6 +5,8 @@
 mod displays;
 mod ecma;
 mod leading;
+mod marking;
+mod marks;
 mod repeating;
 mod steps;
 mod terminal;
@@ -12,6 +14,7 @@ mod undefined;
 
 pub use ecma::{EcmaScreen, one_division, pieces_do_not_matter, screens_follow_texts};
 pub use leading::{moved_by, turned};
+pub use marks::Marks;
 pub use repeating::repeats_are_characters;
 pub use terminal::Terminal;
 pub use undefined::Undefined;

@@ -10,7 +10,7 @@ ghost use Rattle.scr_cells.specs.LookViews.{IsLook, LookView};
 ghost use Rattle.scr_cells.specs.PenViews.{plain_pen};
 ghost use Rattle.scr_cells.specs.PictureViews.{IsPlace};
 ghost use Rattle.scr_terminal.specs.Displays.{IsDisplay, blank_display, gone_on};
-ghost use Rattle.scr_terminal.specs.Characters.{characters_ahead, is_character_op};
+ghost use Rattle.scr_terminal.specs.Characters.{LeavesOthers, characters_ahead, is_character_op};
 ghost use Rattle.scr_term.specs.Operations.Abilities.{full_abilities};
 ghost use Rattle.scr_term.specs.Operations.States.{IsShownPen, IsSpot, character_written};
 ghost use Rattle.scr_term.specs.Operations.Steps.{act, runs, step};
@@ -21,7 +21,7 @@ ghost use Rattle.scr_term.specs.declared.operations.operation.Op.TheVariants.{Pu
 use crate::displays::{Change, Display};
 use crate::steps::change_of;
 use crate::undefined::Undefined;
-use scr_cells::{Attrs, Look, NoMemory, Pen, Size};
+use scr_cells::{Attrs, Look, NoMemory, Pen, Size, grid_laws};
 use scr_term::{Op, Profile, Spot, look_grid_laws, shown_pen_laws};
 use std::alloc::Global;
 use std::marker::Model;
@@ -30,7 +30,7 @@ use std::marker::Model;
 /// the result. Use it to test a program without a terminal.
 #[derive(Drop)]
 pub struct Terminal {
-    display: Display,
+    pub(crate) display: Display,
 }
 
 impl Model for Terminal {
@@ -108,8 +108,10 @@ impl Terminal {
         ensures characters { list_all is_character_op (take result ops.now) ≡ true }
         ensures defined { is_some (runs profile.now self.old.state (take result ops.now)) ≡ true }
         ensures state { self.new ≡ gone_on self.old (runs profile.now self.old.state (take result ops.now)) }
+        ensures others { LeavesOthers self.old.rows self.old.columns self.old.state.spot result self.old.state.grid self.new.state.grid }
     {
         look_grid_laws();
+        grid_laws::<Look>();
         let count = self.display.write_ahead(ops);
         let _size = self.display.size();
         count
@@ -185,7 +187,7 @@ impl Terminal {
     }
 
     // Writes a character; at the margin it returns false and changes nothing.
-    fn write(&mut self, profile: &Profile, character: char) -> bool
+    pub(crate) fn write(&mut self, profile: &Profile, character: char) -> bool
         requires character { IsCharacter character }
         requires columns { profile.now.columns ≡ self.old.columns }
         ensures answer { result ≡ is_some (character_written profile.now.columns self.old.state character) }
@@ -198,7 +200,7 @@ impl Terminal {
 
     // Writes a character several times; if that is undefined, returns false and changes nothing.
     #[tactic(auto, unfolding(scr_term::specs::Operations::Texts::has))]
-    fn repeat(&mut self, profile: &Profile, byte: u8, count: u32) -> bool
+    pub(crate) fn repeat(&mut self, profile: &Profile, byte: u8, count: u32) -> bool
         requires has { IsTrue (has profile.now (Repeat byte count)) }
         requires columns { profile.now.columns ≡ self.old.columns }
         ensures answer { result ≡ is_some (act profile.now self.old.state (Repeat byte count)) }
@@ -225,7 +227,7 @@ impl Terminal {
     }
 
     // Makes a change; returns false if there is none.
-    fn make(&mut self, change: Option<Change>) -> bool
+    pub(crate) fn make(&mut self, change: Option<Change>) -> bool
         requires { ForSome change (IsChange self.old.rows self.old.columns) }
         ensures answer { result ≡ is_some change }
         ensures state { self.new ≡ gone_on self.old (option_map (changed self.old.rows self.old.columns self.old.state) change) }

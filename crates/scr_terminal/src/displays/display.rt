@@ -1,8 +1,8 @@
 //! The grid, the cursor's spot and the pen of an emulated terminal.
-ghost use Rattle.std.specs.Prelude.{◌≡◌, ◌+◌, ◌<◌, ◌≤◌, IfOk, is_some, length};
+ghost use Rattle.std.specs.Prelude.{◌≡◌, ◌+◌, ◌<◌, ◌≤◌, IfOk, is_some, length, slice_range};
 ghost use Rattle.scr_cells.specs.declared.charsets.Charset.TheVariants.{Utf8};
 ghost use Rattle.scr_cells.specs.Characters.{IsAscii, IsCharacter};
-ghost use Rattle.scr_cells.specs.Grids.{grid_at, grid_filled, grid_of, grid_row, is_in_run, places_left, places_right, rows_down, rows_up};
+ghost use Rattle.scr_cells.specs.Grids.{grid_at, grid_filled, grid_of, grid_row, grid_with_run, is_in_run, places_left, places_right, rows_down, rows_up};
 ghost use Rattle.scr_cells.specs.LookViews.{IsLook, LookView, blank};
 ghost use Rattle.scr_cells.specs.PictureViews.{IsPlace};
 ghost use Rattle.scr_term.specs.Operations.Abilities.{full_abilities};
@@ -180,6 +180,30 @@ impl Display {
         let count = self.grid.lay_while(row, column, ops, |op| look_of(op, pen));
         self.spot = spot_after(columns, row, column + count as u32);
         count
+    }
+
+    /// Puts the cursor at a spot of the screen, with this pen.
+    pub(crate) fn resume(&mut self, spot: Spot, pen: Pen)
+        requires spot { IsSpot self.old.rows self.old.columns spot }
+        requires pen { IsShownPen (full_abilities Utf8 self.old.rows self.old.columns) pen }
+        ensures { self.new ≡ record self.old { state = record self.old.state { spot = spot; pen = pen } } }
+    {
+        self.spot = spot;
+        self.pen = pen;
+    }
+
+    /// Shows what another display of the same size shows in columns `from..end` of a row.
+    pub(crate) fn copy_part(&mut self, other: &Display, row: u32, from: u32, end: u32)
+        requires columns { other.now.columns ≡ self.old.columns }
+        requires row { row < self.old.rows }
+        requires other { row < other.now.rows }
+        requires order { from ≤ end }
+        requires end { end ≤ self.old.columns }
+        ensures { self.new ≡ record self.old { state = record self.old.state { grid = grid_with_run self.old.state.grid row from (slice_range (grid_row other.now.state.grid row) from end) } } }
+    {
+        grid_laws::<Look>();
+        let _other = other.size();
+        self.grid.lay(row, from, other.grid.part(row, from, end));
     }
 
     /// Makes a change.

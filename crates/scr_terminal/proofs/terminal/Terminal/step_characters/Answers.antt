@@ -1,3 +1,7 @@
+use Rattle.std.proofs.Common.{subst}
+use Rattle.scr_terminal.proofs.MarkLaws.{others_stay}
+use Rattle.scr_terminal.specs.Characters.{LeavesOthers}
+use Rattle.scr_terminal.specs.Displays.{DisplayView}
 use Rattle.scr_terminal.proofs.WritingLaws.{ahead_are_characters, ahead_count, ahead_fits, ahead_is_defined, gone_ahead}
 use Rattle.scr_terminal.proofs.terminal.Terminal.step_characters.Goals as goal
 
@@ -24,3 +28,8 @@ returns-clause-state c =
     let count = ahead_count c.self.inside.display c.args.self.now c.args.ops.now c.write_ahead-count.result c.self.view_is c.write_ahead-count.ensures.count in
     gone_ahead c.look_grid_laws.ensures c.args.profile.now c.self.inside.display c.args.self.now c.write_ahead-count.new.self c.args.ops.now c.write_ahead-count.result c.self.view_is c.self.invariant c.requires.columns count
     c.write_ahead-count.ensures.state
+
+pub returns-clause-others : goal.returns-clause-others
+returns-clause-others c =
+    subst (λ (old : DisplayView). LeavesOthers old.rows old.columns old.state.spot c.write_ahead-count.result old.state.grid c.write_ahead-count.new.self.state.grid) c.self.view_is
+    (others_stay c.grid_laws.ensures c.self.inside.display c.write_ahead-count.new.self c.self.invariant c.args.ops.now c.write_ahead-count.result c.write_ahead-count.ensures.count c.write_ahead-count.ensures.state)

@@ -1,0 +1,49 @@
+-- A second terminal, on which operations are tried before they are sent. curs_refresh(3X), doupdate().
+use Rattle.std.specs.Prelude.{ℕ, ◌≡◌, ◌<◌, ◌&&◌, ◌||◌, Bool, true, false, List, [], ◌∷◌}
+use Rattle.std.specs.Option.{is_some}
+use Rattle.scr_cells.specs.Grids.{grid_at}
+use Rattle.scr_cells.specs.LookViews.{blank}
+use Rattle.scr_term.specs.declared.operations.operation.Op.{Op}
+use Rattle.scr_term.specs.declared.operations.operation.Op.TheVariants.{Reset}
+use Rattle.scr_term.specs.Operations.Abilities.{Abilities}
+use Rattle.scr_term.specs.Operations.Profiles.{ProfileView, abilities}
+use Rattle.scr_term.specs.Operations.Steps.{step}
+use Rattle.scr_terminal.specs.Marks.{AreNone, MarksView, is_marked}
+use Rattle.scr_memory.specs.Memories.{MemoryView, followed, has_one_pen, is_known, places_spot}
+
+-- What the tried operations led to, with how much of it is known; and the marked places.
+pub record SpareView : Type 0 where
+  pub memory : MemoryView
+  pub marks : MarksView
+
+-- Valid marks of a screen of the same size.
+pub record IsSpare (spare : SpareView) : Type 0 where
+  pub rows : spare.marks.rows ≡ spare.memory.rows
+  pub columns : spare.marks.columns ≡ spare.memory.columns
+
+-- The spare is that of a memory: it is of the same size, and outside the marked places it shows what is remembered.
+pub record IsSpareOf (memory : MemoryView) (spare : SpareView) : Type 0 where
+  pub rows : spare.memory.rows ≡ memory.rows
+  pub columns : spare.memory.columns ≡ memory.columns
+  pub same : (r c : ℕ) → r < memory.rows → c < memory.columns → is_marked spare.marks r c ≡ false → grid_at blank spare.memory.state.grid r c ≡ grid_at blank memory.state.grid r c
+
+-- The spare shows what is remembered in every place, and nothing is marked.
+pub record IsReady (memory : MemoryView) (spare : SpareView) : Type 0 where
+  pub of : IsSpareOf memory spare
+  pub none : AreNone spare.marks
+
+-- The operation turns attributes off, in default colours.
+abbrev pub is_reset : Op → Bool
+is_reset Reset = true
+is_reset op = false
+
+-- What the operation needs is known: the pen, unless the terminal has only one, and, unless the operation places the
+-- cursor, the cursor's position. Reset needs nothing.
+abbrev pub is_sure : Abilities → MemoryView → Op → Bool
+is_sure abilities memory op = is_reset op || ((memory.known_pen || has_one_pen abilities) && (memory.known_spot || places_spot op))
+
+-- Each operation needs only what is known when it comes, and is defined from the remembered state.
+abbrev pub are_sure : ProfileView → List Op → MemoryView → Bool
+are_sure profile [] memory = true
+are_sure profile (op ∷ ops) memory =
+    (is_sure (abilities profile) memory op && is_some (step profile memory.state op)) && are_sure profile ops (followed profile op memory)
