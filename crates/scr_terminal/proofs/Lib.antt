@@ -1,6 +1,4 @@
 mod ChangeLaws
-mod DisplayLaws
-mod DisplayViewLaws
 mod EcmaDivisionLaws
 mod EcmaFedLaws
 mod EcmaLedLaws
@@ -10,4 +8,6 @@ mod EcmaReadingLaws
 mod EcmaSpelledLaws
 mod EcmaStateLaws
 mod EcmaUnitLaws
+mod ErasedLaws
+mod TerminalViewLaws
 mod WritingLaws

@@ -2,7 +2,7 @@
 //! texts.
 #![tactic(auto)]
 
-mod displays;
+mod changes;
 mod ecma;
 mod leading;
 mod repeating;
