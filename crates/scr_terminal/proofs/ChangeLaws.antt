@@ -12,7 +12,7 @@ use Rattle.scr_term.specs.Operations.States.{IsShownPen, TerminalState}
 use Rattle.scr_term.specs.Operations.Steps.{motion_made}
 use Rattle.scr_terminal.specs.Code.Changes.{MakesAt, MakesWith, changed, next_pen}
 use Rattle.scr_term.specs.declared.operations.operation.Spot.{Spot}
-use Rattle.scr_terminal.specs.declared.displays.changes.Change.{Change}
+use Rattle.scr_terminal.specs.declared.changes.Change.{Change}
 
 -- a change that is made where the pen and the terminal allow it is a motion
 pub motion_makes : (profile : ProfileView) (rows columns : ℕ) (spot : Spot) (pen : PenView) (change result : Option Change) (f : ℕ → ℕ → TerminalState → Option TerminalState) → rows ≡ profile.rows → columns ≡ profile.columns → MakesAt rows columns spot change (f rows columns) → result ≡ (if profile.msgr || is_plain_pen pen then change else None) → MakesWith profile.rows profile.columns spot pen result (λ state. motion_made profile state (f profile.rows profile.columns state))

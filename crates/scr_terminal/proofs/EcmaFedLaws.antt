@@ -10,7 +10,7 @@ use Rattle.scr_term.specs.Ecma.Meanings.{meaning}
 use Rattle.scr_terminal.specs.Ecma.Screens.{ScreenView, IsScreen, IsFed}
 use Rattle.scr_terminal.specs.Code.Changes.{MakesAt, MakesWith, changed}
 use Rattle.scr_terminal.specs.Code.Readings.{IsLast, IsReading, acted}
-use Rattle.scr_terminal.specs.declared.displays.changes.Change.{Change}
+use Rattle.scr_terminal.specs.declared.changes.Change.{Change}
 use Rattle.scr_term.specs.declared.operations.operation.Spot.{Spot}
 use Rattle.scr_terminal.specs.declared.ecma.readings.Reading.{Reading}
 use Rattle.scr_terminal.specs.declared.ecma.readings.Reading.TheVariants as reading

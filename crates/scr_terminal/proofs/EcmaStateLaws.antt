@@ -9,7 +9,7 @@ use Rattle.scr_term.specs.Operations.States.{AreShownColours, IsShownPen}
 use Rattle.scr_term.specs.Operations.Abilities.{Abilities, full_abilities}
 use Rattle.scr_term.specs.Ecma.Meanings.{rendition, rendition_attribute, renditions}
 use Rattle.scr_terminal.specs.Code.Changes.{IsChange}
-use Rattle.scr_terminal.specs.declared.displays.changes.Change.{Change}
+use Rattle.scr_terminal.specs.declared.changes.Change.{Change}
 use Rattle.scr_term.specs.Operations.Laws.{ShownPenLaws}
 
 -- what holds of each way out of a test

@@ -1,6 +1,4 @@
 mod ChangeLaws
-mod DisplayLaws
-mod DisplayViewLaws
 mod EcmaDivisionLaws
 mod EcmaFedLaws
 mod EcmaLedLaws
@@ -10,5 +8,7 @@ mod EcmaReadingLaws
 mod EcmaSpelledLaws
 mod EcmaStateLaws
 mod EcmaUnitLaws
+mod ErasedLaws
 mod MarkLaws
+mod TerminalViewLaws
 mod WritingLaws

@@ -1,10 +1,10 @@
--- Characters that are written into a row in one go: what is left is a display, and it is what steps one after another lead to.
-use Rattle.std.proofs.Common.{◌≡◌, ◌∙◌, ℕ, zero, suc, replicate, ◌+◌, ◌-◌, ◌<◌, ◌≤◌, ◌⊎◌, inl, inr, ◌&&◌, ◌||◌, Bool, true, false, All, List, [], ◌∷◌, ◌++◌, length, set, take, drop, Option, Some, None, cond, is_some, option_and_then, sym, subst, ap, refl, arith, nat_lt}
+-- Characters that are written into a row in one go: what is left is a terminal, and it is what steps one after another lead to.
+use Rattle.std.proofs.Common.{◌≡◌, ◌∙◌, ℕ, zero, suc, replicate, ◌+◌, ◌-◌, ◌<◌, ◌≤◌, ◌⊎◌, inl, inr, ◌&&◌, ◌||◌, Bool, true, false, All, List, [], ◌∷◌, ◌++◌, length, set, take, drop, Option, Some, None, cond, is_some, nat_le, option_and_then, sym, subst, ap, refl, arith, nat_lt}
 use Rattle.std.specs.List.{list_all}
 use Rattle.std.proofs.lemmas.Bool.Decides.{nat_tests}
 use Rattle.std.proofs.lemmas.List.{append-nil, append_assoc, drop-set-lt, get_or-set_same, length-replicate, length-take, set-get_or, set-set, take-append-drop, take-take, take_more_set}
 use Rattle.std.proofs.lemmas.List.Elements.{All-append, All-cons, All-drop, All-get_or, All-nil, All-set, All-take}
-use Rattle.scr_cells.specs.Characters.{IsCharacter, is_ascii, is_beyond_ascii, is_utf8}
+use Rattle.scr_cells.specs.Characters.{IsAscii, IsCharacter, is_ascii, is_beyond_ascii, is_utf8}
 use Rattle.scr_cells.specs.Grids.{GridView, GridLaws, IsGrid, grid_row, grid_with, grid_with_run, line_with_run}
 use Rattle.scr_cells.specs.LookViews.{LookView, IsLook, blank}
 use Rattle.scr_cells.specs.MadeRuns.{before, made_while}
@@ -14,15 +14,15 @@ use Rattle.scr_term.specs.declared.operations.operation.Op.TheVariants.{Put, Wri
 use Rattle.scr_term.specs.declared.operations.operation.Spot.{Spot}
 use Rattle.scr_term.specs.declared.operations.operation.Spot.TheVariants.{At, Margin}
 use Rattle.scr_terminal.specs.Code.Writing.{look_of, looks_ahead, looks_written, spot_after}
-use Rattle.scr_terminal.specs.Displays.{DisplayView, IsDisplay, gone_on}
+use Rattle.scr_terminal.specs.Terminals.{TerminalView, IsTerminal, gone_on}
 use Rattle.scr_terminal.specs.Characters.{RepeatsAreCharacters, characters_ahead, characters_first, is_character_op, places_ahead}
 use Rattle.scr_term.specs.Operations.Laws.{LookGridLaws}
 use Rattle.scr_term.specs.Operations.Profiles.{ProfileView}
 use Rattle.scr_term.specs.Operations.States.{TerminalState, IsSpot, from_place, written_at}
 use Rattle.scr_term.specs.Operations.Steps.{act, runs, step}
-use Rattle.scr_term.specs.Operations.Texts.{has}
+use Rattle.scr_term.specs.Operations.Texts.{has, is_repetition}
 
--- ---- a display
+-- ---- a terminal
 
 -- at most as many as there is room for
 pub made_fits : (pen : PenView) (n : ℕ) (ops : List Op) → length (made_while (look_of pen) (take n ops)) ≤ n
@@ -65,12 +65,12 @@ run_all rows columns lines r c run is row_in new each =
     (All-append IsLook (take c line ++ run) (drop (c + length run) line) (All-append IsLook (take c line) run (All-take IsLook c line old) new) (All-drop IsLook (c + length run) line old)) each
 
 -- one with a run of looks written
-pub run_is_display : GridLaws LookView → (old : DisplayView) (grid : GridView LookView) (r c : ℕ) (run : List LookView) (spot : Spot) → IsDisplay old → r < old.rows
+pub run_is_terminal : GridLaws LookView → (old : TerminalView) (grid : GridView LookView) (r c : ℕ) (run : List LookView) (spot : Spot) → IsTerminal old → r < old.rows
     → c + length run ≤ old.columns → All IsLook run
     → grid ≡ record { rows = old.rows; columns = old.columns; lines = grid_with_run old.state.grid r c run } → IsSpot old.rows old.columns spot
-    → IsDisplay (record { rows = grid.rows; columns = grid.columns; state = record { grid = grid.lines; spot = spot; pen = old.state.pen } })
-run_is_display laws old grid r c run spot is row_in fits new put inside =
-    let P : GridView LookView → Type 0 = λ g. IsDisplay (record { rows = g.rows; columns = g.columns; state = record { grid = g.lines; spot = spot; pen = old.state.pen } }) in
+    → IsTerminal (record { rows = grid.rows; columns = grid.columns; state = record { grid = grid.lines; spot = spot; pen = old.state.pen } })
+run_is_terminal laws old grid r c run spot is row_in fits new put inside =
+    let P : GridView LookView → Type 0 = λ g. IsTerminal (record { rows = g.rows; columns = g.columns; state = record { grid = g.lines; spot = spot; pen = old.state.pen } }) in
     subst P (sym put) (record {
       size = is.size;
       state = record {
@@ -207,10 +207,8 @@ taken n ops =
     let short = length-take n ops in
     sym (take-take (characters_first (take n ops)) n ops (omega (arith, few, short)))
 
-pub ahead_count : (display view : DisplayView) (ops : List Op) (n : ℕ) → display ≡ view → n ≡ length (looks_ahead display.columns display.state ops)
-    → n ≡ characters_ahead view.columns view.state.spot ops
-ahead_count display view ops n is many =
-    many ∙ ap (λ (d : DisplayView). length (looks_ahead d.columns d.state ops)) is ∙ made_length view.state.pen (take (places_ahead view.columns view.state.spot) ops)
+pub ahead_count : (terminal : TerminalView) (ops : List Op) (n : ℕ) → n ≡ length (looks_ahead terminal.columns terminal.state ops) → n ≡ characters_ahead terminal.columns terminal.state.spot ops
+ahead_count terminal ops n many = many ∙ made_length terminal.state.pen (take (places_ahead terminal.columns terminal.state.spot) ops)
 
 pub ahead_fits : (columns : ℕ) (spot : Spot) (ops : List Op) (n : ℕ) → n ≡ characters_ahead columns spot ops → n ≤ length ops
 ahead_fits columns spot ops n is =
@@ -239,25 +237,21 @@ leads_ahead looks profile rows state ops (At r c) is inside at =
     let short = length-take n ops in
     ap (runs profile state) (taken n ops) ∙ written_ahead looks profile rows state r c (take n ops) is inside.0 here (omega (arith, inside.1, short))
 
-runs_ahead : LookGridLaws → (profile : ProfileView) (old : DisplayView) (ops : List Op) (n : ℕ) → IsDisplay old → profile.columns ≡ old.columns → n ≡ characters_ahead old.columns old.state.spot ops
+runs_ahead : LookGridLaws → (profile : ProfileView) (old : TerminalView) (ops : List Op) (n : ℕ) → IsTerminal old → profile.columns ≡ old.columns → n ≡ characters_ahead old.columns old.state.spot ops
     → runs profile old.state (take n ops) ≡ Some (looks_written old.columns old.state (looks_ahead old.columns old.state ops) old.state.spot)
 runs_ahead looks profile old ops n is wide many =
     let leads = subst (λ columns. IsGrid old.rows columns old.state.grid → IsSpot old.rows columns old.state.spot → LeadsAhead profile columns old.state ops old.state.spot) wide
     (λ whole inside. leads_ahead looks profile old.rows old.state ops old.state.spot whole inside refl) in
     ap (λ n. runs profile old.state (take n ops)) many ∙ leads is.state.whole is.state.spot
 
-pub ahead_is_defined : LookGridLaws → (profile : ProfileView) (display view : DisplayView) (ops : List Op) (n : ℕ) → display ≡ view → IsDisplay display → profile.columns ≡ view.columns
-    → n ≡ characters_ahead view.columns view.state.spot ops → is_some (runs profile view.state (take n ops)) ≡ true
-ahead_is_defined looks profile display view ops n same is wide many = ap is_some (runs_ahead looks profile view ops n (subst IsDisplay same is) wide many)
+pub ahead_is_defined : LookGridLaws → (profile : ProfileView) (terminal : TerminalView) (ops : List Op) (n : ℕ) → IsTerminal terminal → profile.columns ≡ terminal.columns
+    → n ≡ characters_ahead terminal.columns terminal.state.spot ops → is_some (runs profile terminal.state (take n ops)) ≡ true
+ahead_is_defined looks profile terminal ops n is wide many = ap is_some (runs_ahead looks profile terminal ops n is wide many)
 
-pub gone_ahead : LookGridLaws → (profile : ProfileView) (display view new : DisplayView) (ops : List Op) (n : ℕ) → display ≡ view → IsDisplay display → profile.columns ≡ view.columns
-    → n ≡ characters_ahead view.columns view.state.spot ops
-    → new ≡ record display { state = looks_written display.columns display.state (looks_ahead display.columns display.state ops) display.state.spot }
-    → new ≡ gone_on view (runs profile view.state (take n ops))
-gone_ahead looks profile display view new ops n same is wide many made =
-    made
-    ∙ ap (λ (d : DisplayView). record d { state = looks_written d.columns d.state (looks_ahead d.columns d.state ops) d.state.spot }) same
-    ∙ sym (ap (gone_on view) (runs_ahead looks profile view ops n (subst IsDisplay same is) wide many))
+pub gone_ahead : LookGridLaws → (profile : ProfileView) (old new : TerminalView) (ops : List Op) (n : ℕ) → IsTerminal old → profile.columns ≡ old.columns → n ≡ characters_ahead old.columns old.state.spot ops
+    → new ≡ record old { state = looks_written old.columns old.state (looks_ahead old.columns old.state ops) old.state.spot }
+    → new ≡ gone_on old (runs profile old.state (take n ops))
+gone_ahead looks profile old new ops n is wide many made = made ∙ sym (ap (gone_on old) (runs_ahead looks profile old ops n is wide many))
 
 -- ---- a character that is repeated
 
@@ -333,6 +327,19 @@ put_is_character profile byte had = ap (λ t. t || is_beyond_ascii byte) (both_f
 both_last : (a b : Bool) → (a && b) ≡ true → b ≡ true
 both_last true b h = h
 both_last false b h = (cc)
+
+-- a character of ASCII, and few of it
+pub repeat_is_ascii : (profile : ProfileView) (byte n : ℕ) → has profile (Repeat byte n) ≡ true → IsAscii byte
+unfolding has
+repeat_is_ascii profile byte n had =
+    let is : is_ascii byte ≡ true = both_first (is_ascii byte) (is_repetition n) (both_first (is_ascii byte && is_repetition n) _ had) in
+    (grind (arith, nat_tests, is), grind (arith, nat_tests, is))
+
+pub repeat_is_few : (profile : ProfileView) (byte n : ℕ) → has profile (Repeat byte n) ≡ true → n ≤ 500
+unfolding has
+repeat_is_few profile byte n had =
+    let few = both_last (nat_le 2 n) (nat_le n 500) (both_last (is_ascii byte) (is_repetition n) (both_first (is_ascii byte && is_repetition n) _ had)) in
+    grind (arith, nat_tests, few)
 
 pub write_is_character : (profile : ProfileView) (code : ℕ) → has profile (Write code) ≡ true → IsCharacter code
 unfolding has

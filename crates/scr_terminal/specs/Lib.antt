@@ -1,5 +1,5 @@
 pub use Rattle.scr_term.specs.Operations
-pub mod Displays
+pub mod Terminals
 pub mod Characters
 pub mod Leading
 pub mod Marks

@@ -6,7 +6,7 @@ ghost use Rattle.scr_terminal.specs.Leading.{GoesTo, IsUndefinedAt, TurnsTo, is_
 ghost use Rattle.scr_term.specs.Operations.States.{IsShownPen, IsSpot};
 ghost use Rattle.scr_term.specs.Operations.Texts.{has};
 
-use crate::displays::Change;
+use crate::changes::Change;
 use crate::steps::{change_of, next_pen, without_attributes};
 use bitflags::Flags;
 use scr_cells::{Attrs, Pen};

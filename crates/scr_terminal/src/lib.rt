@@ -2,10 +2,9 @@
 //! texts.
 #![tactic(auto)]
 
-mod displays;
+mod changes;
 mod ecma;
 mod leading;
-mod marking;
 mod marks;
 mod repeating;
 mod steps;

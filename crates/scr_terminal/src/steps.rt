@@ -11,7 +11,7 @@ ghost use Rattle.scr_term.specs.Operations.Texts.{has};
 ghost use Rattle.scr_terminal.specs.Leading.{is_motion};
 ghost use Rattle.scr_terminal.specs.Code.Changes.{IsChange, IsMoved, MakesAt, MakesWith, next_pen};
 
-use crate::displays::{
+use crate::changes::{
     Change, characters_deleted, characters_erased, characters_inserted, lines_deleted,
     lines_inserted, moved_down, moved_left, moved_right, moved_to, moved_to_column, moved_to_row,
     moved_up, rest_of_line_erased, scrolled_down, scrolled_up,

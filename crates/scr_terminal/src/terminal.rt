@@ -1,27 +1,22 @@
-//! An emulated terminal that executes operations.
-ghost use Rattle.std.specs.Prelude.{◌≡◌, ◌≢◌, ◌<◌, ◌≤◌, ◌↔◌, ℕ, IfOk, IsOk, IsTrue, bit_and, is_some, length, option_map, take, true};
-ghost use Rattle.std.specs.List.{list_all};
-ghost use Rattle.std.specs.Option.{ForSome};
+//! An emulated terminal that executes operations: what it is and what it shows. `characters` writes,
+//! `making` makes every other change.
+ghost use Rattle.std.specs.Prelude.{◌≡◌, ◌<◌, ◌↔◌, IfOk, IsOk, IsTrue, bit_and, is_some, length};
 ghost use Rattle.scr_cells.specs.declared.charsets.Charset.TheVariants.{Utf8};
 ghost use Rattle.scr_cells.specs.Attributes.{every_attribute};
-ghost use Rattle.scr_cells.specs.Characters.{IsCharacter};
 ghost use Rattle.scr_cells.specs.Grids.{grid_at, grid_row};
 ghost use Rattle.scr_cells.specs.LookViews.{IsLook, LookView};
-ghost use Rattle.scr_cells.specs.PenViews.{plain_pen};
 ghost use Rattle.scr_cells.specs.PictureViews.{IsPlace};
-ghost use Rattle.scr_terminal.specs.Displays.{IsDisplay, blank_display, gone_on};
-ghost use Rattle.scr_terminal.specs.Characters.{LeavesOthers, characters_ahead, is_character_op};
 ghost use Rattle.scr_term.specs.Operations.Abilities.{full_abilities};
-ghost use Rattle.scr_term.specs.Operations.States.{IsShownPen, IsSpot, character_written};
-ghost use Rattle.scr_term.specs.Operations.Steps.{act, runs, step};
-ghost use Rattle.scr_term.specs.Operations.Texts.{has};
-ghost use Rattle.scr_terminal.specs.Code.Changes.{IsChange, changed};
-ghost use Rattle.scr_term.specs.declared.operations.operation.Op.TheVariants.{Put, Write, Repeat};
+ghost use Rattle.scr_term.specs.Operations.States.{IsShownPen, IsSpot};
+ghost use Rattle.scr_term.specs.Operations.Steps.{step};
+ghost use Rattle.scr_terminal.specs.Terminals.{IsTerminal, blank_terminal, gone_on};
 
-use crate::displays::{Change, Display};
-use crate::steps::change_of;
+mod characters;
+mod making;
+mod marking;
+
 use crate::undefined::Undefined;
-use scr_cells::{Attrs, Look, NoMemory, Pen, Size, grid_laws};
+use scr_cells::{Attrs, Grid, Look, NoMemory, Pen, Size, grid_laws};
 use scr_term::{Op, Profile, Spot, look_grid_laws, shown_pen_laws};
 use std::alloc::Global;
 use std::marker::Model;
@@ -30,28 +25,35 @@ use std::marker::Model;
 /// the result. Use it to test a program without a terminal.
 #[derive(Drop)]
 pub struct Terminal {
-    pub(crate) display: Display,
+    grid: Grid<Look>,
+    spot: Spot,
+    pen: Pen,
 }
 
 impl Model for Terminal {
-    ghost use Rattle.scr_terminal.specs.Displays.{DisplayView, IsDisplay};
+    ghost use Rattle.scr_terminal.specs.Terminals.{TerminalView, IsTerminal};
 
-    ghost Value = { DisplayView };
+    ghost Value = { TerminalView };
 
-    ghost view = { λ a. a.display };
+    ghost view = { λ a. record { rows = a.grid.rows; columns = a.grid.columns; state = record { grid = a.grid.lines; spot = a.spot; pen = a.pen } } };
 
-    ghost invariant = { λ a. IsDisplay a.display };
+    ghost invariant = { λ a. IsTerminal (record { rows = a.grid.rows; columns = a.grid.columns; state = record { grid = a.grid.lines; spot = a.spot; pen = a.pen } }) };
 }
 
 impl Terminal {
     /// A blank terminal: cursor at row 0, column 0, no attribute on, default colours. Fails only
     /// when memory runs out.
     pub fn new(alloc: Global, size: Size) -> Result<Terminal, NoMemory>
-        ensures { IfOk result (λ terminal. terminal ≡ blank_display size.rows size.columns) }
+        ensures { IfOk result (λ terminal. terminal ≡ blank_terminal size.rows size.columns) }
     {
-        let display = Display::new(alloc, size)?;
-        let _size = display.size();
-        Ok(Terminal { display })
+        grid_laws::<Look>();
+        look_grid_laws();
+        shown_pen_laws();
+        Ok(Terminal {
+            grid: Grid::new(alloc, size.rows, size.columns, Look::blank())?,
+            spot: Spot::At(0, 0),
+            pen: Pen::plain(),
+        })
     }
 
     /// A terminal that shows the same, with the same cursor and pen. Fails only when memory runs
@@ -60,7 +62,9 @@ impl Terminal {
         ensures { IfOk result (λ terminal. terminal ≡ self.now) }
     {
         Ok(Terminal {
-            display: self.display.try_clone(alloc)?,
+            grid: self.grid.try_clone(alloc)?,
+            spot: self.spot,
+            pen: self.pen,
         })
     }
 
@@ -91,48 +95,24 @@ impl Terminal {
             return Err(Undefined);
         }
         let is_defined = match op {
-            Op::Put(byte) => self.write(profile, char::from(byte)),
-            Op::Write(character) => self.write(profile, character),
-            Op::Repeat(byte, count) => self.repeat(profile, byte, count),
+            Op::Put(byte) => self.write(char::from(byte)),
+            Op::Write(character) => self.write(character),
+            Op::Repeat(byte, count) => self.repeat(byte, count),
             _ => self.change(profile, op),
         };
         if is_defined { Ok(()) } else { Err(Undefined) }
-    }
-
-    /// Writes the characters of ASCII that `ops` begins with, as many as fit in the cursor's row, and
-    /// returns their number: for callers that write many. At the margin it writes none.
-    pub fn step_characters(&mut self, profile: &Profile, ops: &[Op]) -> usize
-        requires columns { profile.now.columns ≡ self.old.columns }
-        ensures count { result ≡ characters_ahead self.old.columns self.old.state.spot ops.now }
-        ensures inside { result ≤ length ops.now }
-        ensures characters { list_all is_character_op (take result ops.now) ≡ true }
-        ensures defined { is_some (runs profile.now self.old.state (take result ops.now)) ≡ true }
-        ensures state { self.new ≡ gone_on self.old (runs profile.now self.old.state (take result ops.now)) }
-        ensures others { LeavesOthers self.old.rows self.old.columns self.old.state.spot result self.old.state.grid self.new.state.grid }
-    {
-        look_grid_laws();
-        grid_laws::<Look>();
-        let count = self.display.write_ahead(ops);
-        let _size = self.display.size();
-        count
-    }
-
-    /// Turns attributes off and makes the colours default, whatever the terminal has for it.
-    pub fn make_plain(&mut self)
-        ensures { self.new ≡ record self.old { state = record self.old.state { pen = plain_pen } } }
-    {
-        shown_pen_laws();
-        self.display.make(Change::Rendered(Pen::plain()));
-        let _size = self.display.size();
     }
 
     /// The number of rows and columns.
     pub fn size(&self) -> Size
         ensures rows { result.rows ≡ self.now.rows }
         ensures columns { result.columns ≡ self.now.columns }
-        ensures terminal { IsDisplay self.now }
+        ensures terminal { IsTerminal self.now }
     {
-        self.display.size()
+        Size {
+            rows: self.grid.rows(),
+            columns: self.grid.columns(),
+        }
     }
 
     /// The look at a row and a column, which count from 0 at the top left.
@@ -141,7 +121,9 @@ impl Terminal {
         ensures value { (other : LookView) → result ≡ grid_at other self.now.state.grid row column }
         ensures look { IsLook result }
     {
-        self.display.cell(row, column)
+        let look = self.grid.at(row, column);
+        let _code = look.code();
+        look
     }
 
     /// The looks of a row, from the left; rows count from 0 at the top.
@@ -150,7 +132,7 @@ impl Terminal {
         ensures cells { result.now ≡ grid_row self.now.state.grid row }
         ensures width { length result.now ≡ self.now.columns }
     {
-        self.display.row(row)
+        self.grid.row(row)
     }
 
     /// Where the cursor is.
@@ -158,7 +140,7 @@ impl Terminal {
         ensures value { result ≡ self.now.state.spot }
         ensures inside { IsSpot self.now.rows self.now.columns result }
     {
-        self.display.spot()
+        self.spot
     }
 
     /// The pen: the attributes that are on, and the current colours.
@@ -166,7 +148,7 @@ impl Terminal {
         ensures value { result ≡ self.now.state.pen }
         ensures shown { IsShownPen (full_abilities Utf8 self.now.rows self.now.columns) result }
     {
-        self.display.pen()
+        self.pen
     }
 
     /// The attributes that are on.
@@ -174,7 +156,7 @@ impl Terminal {
         ensures value { result.0 ≡ self.now.state.pen.attrs }
         ensures shown { bit_and every_attribute result.0 ≡ result.0 }
     {
-        self.display.pen().attrs()
+        self.pen.attrs()
     }
 
     /// The current foreground and background, each `None` if it is the default.
@@ -182,64 +164,6 @@ impl Terminal {
         ensures foreground { result.0 ≡ self.now.state.pen.foreground }
         ensures background { result.1 ≡ self.now.state.pen.background }
     {
-        let pen = self.display.pen();
-        (pen.foreground(), pen.background())
-    }
-
-    // Writes a character; at the margin it returns false and changes nothing.
-    pub(crate) fn write(&mut self, profile: &Profile, character: char) -> bool
-        requires character { IsCharacter character }
-        requires columns { profile.now.columns ≡ self.old.columns }
-        ensures answer { result ≡ is_some (character_written profile.now.columns self.old.state character) }
-        ensures state { self.new ≡ gone_on self.old (character_written profile.now.columns self.old.state character) }
-    {
-        let is_defined = self.display.write(character);
-        let _size = self.display.size();
-        is_defined
-    }
-
-    // Writes a character several times; if that is undefined, returns false and changes nothing.
-    #[tactic(auto, unfolding(scr_term::specs::Operations::Texts::has))]
-    pub(crate) fn repeat(&mut self, profile: &Profile, byte: u8, count: u32) -> bool
-        requires has { IsTrue (has profile.now (Repeat byte count)) }
-        requires columns { profile.now.columns ≡ self.old.columns }
-        ensures answer { result ≡ is_some (act profile.now self.old.state (Repeat byte count)) }
-        ensures state { self.new ≡ gone_on self.old (act profile.now self.old.state (Repeat byte count)) }
-    {
-        let is_defined = self.display.repeat(byte, count);
-        let _size = self.display.size();
-        is_defined
-    }
-
-    // Does what any other operation means; if that is undefined, returns false and changes nothing.
-    fn change(&mut self, profile: &Profile, op: Op) -> bool
-        requires has { IsTrue (has profile.now op) }
-        requires rows { profile.now.rows ≡ self.old.rows }
-        requires columns { profile.now.columns ≡ self.old.columns }
-        requires one { (byte : ℕ) → op ≢ Put byte }
-        requires written { (code : ℕ) → op ≢ Write code }
-        requires several { (byte n : ℕ) → op ≢ Repeat byte n }
-        ensures answer { result ≡ is_some (act profile.now self.old.state op) }
-        ensures state { self.new ≡ gone_on self.old (act profile.now self.old.state op) }
-    {
-        let change = change_of(profile, self.display.spot(), self.display.pen(), op);
-        self.make(change)
-    }
-
-    // Makes a change; returns false if there is none.
-    pub(crate) fn make(&mut self, change: Option<Change>) -> bool
-        requires { ForSome change (IsChange self.old.rows self.old.columns) }
-        ensures answer { result ≡ is_some change }
-        ensures state { self.new ≡ gone_on self.old (option_map (changed self.old.rows self.old.columns self.old.state) change) }
-    {
-        let is_defined = match change {
-            Some(change) => {
-                self.display.make(change);
-                true
-            }
-            None => false,
-        };
-        let _size = self.display.size();
-        is_defined
+        (self.pen.foreground(), self.pen.background())
     }
 }

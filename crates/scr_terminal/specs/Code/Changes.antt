@@ -10,8 +10,8 @@ use Rattle.scr_term.specs.declared.operations.operation.Op.{Op}
 use Rattle.scr_term.specs.declared.operations.operation.Op.TheVariants.{Reset, Enter, Set}
 use Rattle.scr_term.specs.declared.operations.operation.Spot.{Spot}
 use Rattle.scr_term.specs.declared.operations.operation.Spot.TheVariants.{At}
-use Rattle.scr_terminal.specs.declared.displays.changes.Change.{Change}
-use Rattle.scr_terminal.specs.declared.displays.changes.Change.TheVariants.{Moved, ErasedRun, ErasedFrom, ErasedAll, Cleared, LinesInserted, LinesDeleted, CharactersInserted, CharactersDeleted, Rendered}
+use Rattle.scr_terminal.specs.declared.changes.Change.{Change}
+use Rattle.scr_terminal.specs.declared.changes.Change.TheVariants.{Moved, ErasedRun, ErasedFrom, ErasedAll, Cleared, LinesInserted, LinesDeleted, CharactersInserted, CharactersDeleted, Rendered}
 
 -- a place of the screen, places of one of its rows, lines and characters that it has, and a pen that it shows
 abbrev pub IsChange : ℕ → ℕ → Change → Type 0

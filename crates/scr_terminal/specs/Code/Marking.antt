@@ -2,9 +2,9 @@
 use Rattle.std.specs.Prelude.{ℕ, ◌≡◌, ◌<◌, ◌&&◌, leb, ltb, if◌then◌else◌, Bool, true, false}
 use Rattle.scr_cells.specs.Grids.{grid_at, is_in_run}
 use Rattle.scr_cells.specs.LookViews.{blank}
-use Rattle.scr_terminal.specs.Displays.{DisplayView}
-use Rattle.scr_terminal.specs.declared.displays.changes.Change.{Change}
-use Rattle.scr_terminal.specs.declared.displays.changes.Change.TheVariants.{Moved, ErasedRun, ErasedFrom, ErasedAll, Cleared, LinesInserted, LinesDeleted, CharactersInserted, CharactersDeleted, Rendered}
+use Rattle.scr_terminal.specs.Terminals.{TerminalView}
+use Rattle.scr_terminal.specs.declared.changes.Change.{Change}
+use Rattle.scr_terminal.specs.declared.changes.Change.TheVariants.{Moved, ErasedRun, ErasedFrom, ErasedAll, Cleared, LinesInserted, LinesDeleted, CharactersInserted, CharactersDeleted, Rendered}
 
 -- the rows from one to another, of so many columns
 abbrev pub is_in_rows : ℕ → ℕ → ℕ → ℕ → ℕ → Bool
@@ -28,7 +28,7 @@ is_changed_by rows columns (CharactersDeleted row column n) = is_in_run row colu
 is_changed_by rows columns (Rendered pen) = is_nowhere
 
 -- columns of a row were copied from another terminal, and nothing else changed
-pub record IsCopied (row from end : ℕ) (old other new : DisplayView) : Type 0 where
+pub record IsCopied (row from end : ℕ) (old other new : TerminalView) : Type 0 where
   pub rows : new.rows ≡ old.rows
   pub columns : new.columns ≡ old.columns
   pub spot : new.state.spot ≡ old.state.spot

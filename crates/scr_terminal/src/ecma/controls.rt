@@ -1,5 +1,5 @@
 //! Control functions: what a whole unit of an ECMA-48 text changes. `parameters` reads the
-//! parameters of a control sequence, and `displays` makes the changes.
+//! parameters of a control sequence, and `terminal` makes the changes.
 ghost use Rattle.std.specs.Prelude.{◌≡◌, ◌≤◌, ℕ, List, ◌∷◌, None, option_and_then, option_map, IfSome, unwrap_or};
 ghost use Rattle.scr_cells.specs.declared.charsets.Charset.TheVariants.{Utf8};
 ghost use Rattle.scr_cells.specs.PenViews.{IsColour, with_attribute};
@@ -10,7 +10,7 @@ ghost use Rattle.scr_term.specs.Ecma.Meanings.{meaning, choice_of, control_chara
 ghost use Rattle.scr_terminal.specs.Code.Changes.{IsChange, Makes, MakesAt, MakesWith};
 ghost use Rattle.scr_terminal.specs.Code.Readings.{IsLast};
 
-use crate::displays::{
+use crate::changes::{
     Change, characters_erased, moved_down, moved_left, moved_right, moved_to, moved_to_column,
     moved_to_row, moved_up, rest_of_line_erased,
 };

@@ -15,9 +15,10 @@ ghost use Rattle.scr_terminal.specs.Ecma.Screens.{IsScreen, IsFed, blank_screen}
 ghost use Rattle.scr_terminal.specs.Code.Changes.{IsChange, changed};
 ghost use Rattle.scr_terminal.specs.Code.Readings.{IsLast, IsReading, acted};
 
-use crate::displays::{Change, Display};
+use crate::changes::Change;
 use crate::ecma::controls::{control_character, control_sequence};
 use crate::ecma::readings::{Reading, read_byte};
+use crate::terminal::Terminal;
 use crate::undefined::Undefined;
 use arrayvec::ArrayVec;
 use scr_cells::{Attrs, Charset, Look, NoMemory, Size};
@@ -33,7 +34,7 @@ use std::marker::Model;
 /// the screen stays as it is.
 #[derive(Drop)]
 pub struct EcmaScreen {
-    display: Display,
+    terminal: Terminal,
     charset: Charset,
     // The beginning of a unit, after the last whole one.
     waiting: ArrayVec<u8, 64>,
@@ -46,19 +47,19 @@ impl Model for EcmaScreen {
     ghost Value = { ScreenView };
 
     ghost view = { λ a. record {
-      rows = a.display.rows;
-      columns = a.display.columns;
+      rows = a.terminal.rows;
+      columns = a.terminal.columns;
       charset = a.charset;
-      state = a.display.state;
+      state = a.terminal.state;
       waiting = a.waiting.items;
       undefined = a.undefined;
     } };
 
     ghost invariant = { λ a. IsScreen (record {
-      rows = a.display.rows;
-      columns = a.display.columns;
+      rows = a.terminal.rows;
+      columns = a.terminal.columns;
       charset = a.charset;
-      state = a.display.state;
+      state = a.terminal.state;
       waiting = a.waiting.items;
       undefined = a.undefined;
     }) };
@@ -80,10 +81,10 @@ impl EcmaScreen {
     pub fn new_as(alloc: Global, size: Size, charset: Charset) -> Result<EcmaScreen, NoMemory>
         ensures { IfOk result (λ screen. screen ≡ blank_screen charset size.rows size.columns) }
     {
-        let display = Display::new(alloc, size)?;
-        let _size = display.size();
+        let terminal = Terminal::new(alloc, size)?;
+        let _size = terminal.size();
         Ok(EcmaScreen {
-            display,
+            terminal,
             charset,
             waiting: ArrayVec::new(),
             undefined: false,
@@ -119,7 +120,7 @@ impl EcmaScreen {
         ensures columns { result.columns ≡ self.now.columns }
         ensures screen { IsScreen self.now }
     {
-        self.display.size()
+        self.terminal.size()
     }
 
     /// The look at a row and a column, which count from 0 at the top left.
@@ -128,7 +129,7 @@ impl EcmaScreen {
         ensures value { (other : LookView) → result ≡ grid_at other self.now.state.grid row column }
         ensures look { IsLook result }
     {
-        self.display.cell(row, column)
+        self.terminal.cell(row, column)
     }
 
     /// The looks of a row, from the left; rows count from 0 at the top.
@@ -137,7 +138,7 @@ impl EcmaScreen {
         ensures cells { result.now ≡ grid_row self.now.state.grid row }
         ensures width { length result.now ≡ self.now.columns }
     {
-        self.display.row(row)
+        self.terminal.row(row)
     }
 
     /// Where the cursor is (ECMA-48, 'active presentation position').
@@ -145,7 +146,7 @@ impl EcmaScreen {
         ensures value { result ≡ self.now.state.spot }
         ensures inside { IsSpot self.now.rows self.now.columns result }
     {
-        self.display.spot()
+        self.terminal.spot()
     }
 
     /// The attributes that are on (ECMA-48, 8.3.117 SGR).
@@ -153,7 +154,7 @@ impl EcmaScreen {
         ensures value { result.0 ≡ self.now.state.pen.attrs }
         ensures shown { bit_and every_attribute result.0 ≡ result.0 }
     {
-        self.display.pen().attrs()
+        self.terminal.pen().attrs()
     }
 
     /// The current foreground and background, each `None` if it is the default (ECMA-48, 8.3.117
@@ -162,7 +163,7 @@ impl EcmaScreen {
         ensures foreground { result.0 ≡ self.now.state.pen.foreground }
         ensures background { result.1 ≡ self.now.state.pen.background }
     {
-        let pen = self.display.pen();
+        let pen = self.terminal.pen();
         (pen.foreground(), pen.background())
     }
 
@@ -207,14 +208,14 @@ impl EcmaScreen {
         ensures { self.new ≡ acted self.old (meaning self.old.rows self.old.columns self.old.state (Spelled character)) }
     {
         self.waiting.clear();
-        let is_defined = match Look::of(character, self.display.pen()) {
-            Some(look) => self.display.lay(look),
+        let is_defined = match Look::of(character, self.terminal.pen()) {
+            Some(look) => self.terminal.lay(look),
             None => false,
         };
         if !is_defined {
             self.undefined = true;
         }
-        let _size = self.display.size();
+        let _size = self.terminal.size();
     }
 
     // Reads a control function of one byte.
@@ -224,7 +225,7 @@ impl EcmaScreen {
         requires reading { IsReading self.old.charset self.old.waiting byte Reading.Control }
         ensures { IsFed self.old (byte ∷ []) self.new }
     {
-        let change = control_character(self.display.size(), self.display.spot(), byte);
+        let change = control_character(self.terminal.size(), self.terminal.spot(), byte);
         self.apply(change);
     }
 
@@ -236,8 +237,8 @@ impl EcmaScreen {
         ensures { IsFed self.old (byte ∷ []) self.new }
     {
         let part = self.waiting.as_slice();
-        let size = self.display.size();
-        let change = control_sequence(size, self.display.spot(), self.display.pen(), part, byte);
+        let size = self.terminal.size();
+        let change = control_sequence(size, self.terminal.spot(), self.terminal.pen(), part, byte);
         self.apply(change);
     }
 
@@ -247,10 +248,10 @@ impl EcmaScreen {
         requires whole { self.old.waiting ≡ [] }
         ensures { self.new ≡ acted self.old (character_written self.old.columns self.old.state byte) }
     {
-        if !self.display.write(char::from(byte)) {
+        if !self.terminal.write(char::from(byte)) {
             self.undefined = true;
         }
-        let _size = self.display.size();
+        let _size = self.terminal.size();
     }
 
     /// Makes a change, or becomes undefined if there is none.
@@ -260,9 +261,9 @@ impl EcmaScreen {
     {
         self.waiting.clear();
         match change {
-            Some(change) => self.display.make(change),
+            Some(change) => self.terminal.make(change),
             None => self.undefined = true,
         }
-        let _size = self.display.size();
+        let _size = self.terminal.size();
     }
 }

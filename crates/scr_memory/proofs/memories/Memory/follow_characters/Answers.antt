@@ -1,5 +1,5 @@
 use Rattle.std.proofs.Common.{◌∙◌, ap, take}
-use Rattle.scr_terminal.specs.Displays.{DisplayView}
+use Rattle.scr_terminal.specs.Terminals.{TerminalView}
 use Rattle.scr_memory.specs.Memories.{MemoryView, all_followed}
 use Rattle.scr_memory.proofs.FollowingLaws.{gone_on_followed}
 use Rattle.scr_memory.proofs.memories.Memory.follow_characters.Goals as goal
@@ -19,6 +19,6 @@ returns-clause-followed c =
     let ops = take c.step_characters-count.result c.args.ops.now in
     let spot = ap (λ (m : MemoryView). m.known_spot) c.self.view_is ∙ c.requires.spot in
     let pen = ap (λ (m : MemoryView). m.known_pen) c.self.view_is ∙ c.requires.pen in
-    ap (λ (t : DisplayView). record memory { rows = t.rows; columns = t.columns; state = t.state }) c.step_characters-count.ensures.state
+    ap (λ (t : TerminalView). record memory { rows = t.rows; columns = t.columns; state = t.state }) c.step_characters-count.ensures.state
     ∙ gone_on_followed profile ops memory c.step_characters-count.ensures.characters spot pen c.step_characters-count.ensures.defined
     ∙ ap (all_followed profile ops) c.self.view_is

@@ -5,7 +5,7 @@ use Rattle.scr_terminal.proofs.ecma.screens.EcmaScreen.apply.Goals as goal
 
 pub make-requires : goal.make-requires
 make-requires c =
-    change_fits c.args.self.now.rows c.args.self.now.columns c.self.inside.display.rows c.self.inside.display.columns c.args.change c.in-Some.change
+    change_fits c.args.self.now.rows c.args.self.now.columns c.self.inside.terminal.rows c.self.inside.terminal.columns c.args.change c.in-Some.change
     c.requires c.in-Some.is (ap (λ (s : ScreenView). s.rows) c.self.view_is) (ap (λ (s : ScreenView). s.columns) c.self.view_is)
 
 pub returns : goal.returns

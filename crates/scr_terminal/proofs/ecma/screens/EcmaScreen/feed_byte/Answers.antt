@@ -29,12 +29,12 @@ returns-in-Spelled c =
 
 pub returns-in-Held : goal.returns-in-Held
 returns-in-Held c =
-    let display = c.self.inside.display in
+    let terminal = c.self.inside.terminal in
     let pushed : ScreenView = record {
-      rows = display.rows;
-      columns = display.columns;
+      rows = terminal.rows;
+      columns = terminal.columns;
       charset = c.self.inside.charset;
-      state = display.state;
+      state = terminal.state;
       waiting = c.push.new.self.items;
       undefined = c.self.inside.undefined;
     } in
@@ -42,7 +42,7 @@ returns-in-Held c =
     (sym (ap (λ (s : ScreenView). s.undefined) c.self.view_is) ∙ c.if-self.false)
     (c.as_slice-part.ensures.value ∙ ap (λ (s : ScreenView). s.waiting) c.self.view_is)
     (reading_of c.args.self.now c.self.inside.charset c.as_slice-part.result.now c.args.byte Held (ap (λ (s : ScreenView). s.charset) c.self.view_is) c.in-Held.ensures)
-    (held_view display.rows display.columns c.self.inside.charset display.state c.self.inside.waiting.items c.push.new.self.items c.args.byte c.self.inside.undefined c.args.self.now c.push.ensures.items c.self.view_is)
+    (held_view terminal.rows terminal.columns c.self.inside.charset terminal.state c.self.inside.waiting.items c.push.new.self.items c.args.byte c.self.inside.undefined c.args.self.now c.push.ensures.items c.self.view_is)
 
 pub returns-in-Other : goal.returns-in-Other
 returns-in-Other c =

@@ -2,20 +2,20 @@
 ghost use Rattle.std.specs.Prelude.{◌≡◌, ◌≢◌, ◌<◌, ◌≤◌, ◌↔◌, ℕ, IsOk, IsTrue, Some, is_some, length, option_map, take, true};
 ghost use Rattle.std.specs.List.{list_all};
 ghost use Rattle.std.specs.Option.{ForSome};
-ghost use Rattle.scr_cells.specs.Characters.{IsCharacter};
+ghost use Rattle.scr_cells.specs.Characters.{IsAscii, IsCharacter};
 ghost use Rattle.scr_cells.specs.declared.charsets.Charset.TheVariants.{Utf8};
 ghost use Rattle.scr_term.specs.Operations.Abilities.{full_abilities};
-ghost use Rattle.scr_term.specs.Operations.States.{IsShownPen, IsSpot, character_written};
+ghost use Rattle.scr_term.specs.Operations.States.{IsShownPen, IsSpot, character_repeated, character_written};
 ghost use Rattle.scr_term.specs.Operations.Steps.{act, runs, step};
 ghost use Rattle.scr_term.specs.Operations.Texts.{has};
 ghost use Rattle.scr_term.specs.declared.operations.operation.Op.TheVariants.{Put, Write, Repeat};
 ghost use Rattle.scr_terminal.specs.Characters.{characters_ahead, is_character_op};
 ghost use Rattle.scr_terminal.specs.Code.Changes.{IsChange, changed};
 ghost use Rattle.scr_terminal.specs.Code.Marking.{IsCopied, is_changed_by};
-ghost use Rattle.scr_terminal.specs.Displays.{gone_on};
+ghost use Rattle.scr_terminal.specs.Terminals.{gone_on};
 ghost use Rattle.scr_terminal.specs.Marks.{AreOfSize, DifferInMarks, HasAdded, HasMarked};
 
-use crate::displays::Change;
+use crate::changes::Change;
 use crate::marks::Marks;
 use crate::steps::change_of;
 use crate::terminal::Terminal;
@@ -25,7 +25,12 @@ use scr_term::{Op, Profile, Spot};
 
 impl Terminal {
     /// Does what an operation means, as `step`, and marks the places that it may change.
-    pub fn mark_step(&mut self, profile: &Profile, op: Op, marks: &mut Marks) -> Result<(), Undefined>
+    pub fn mark_step(
+        &mut self,
+        profile: &Profile,
+        op: Op,
+        marks: &mut Marks,
+    ) -> Result<(), Undefined>
         requires rows { profile.now.rows ≡ self.old.rows }
         requires columns { profile.now.columns ≡ self.old.columns }
         requires size { AreOfSize self.old.rows self.old.columns marks.old }
@@ -38,9 +43,9 @@ impl Terminal {
             return Err(Undefined);
         }
         let is_defined = match op {
-            Op::Put(byte) => self.mark_written(profile, char::from(byte), marks),
-            Op::Write(character) => self.mark_written(profile, character, marks),
-            Op::Repeat(byte, count) => self.mark_repeated(profile, byte, count, marks),
+            Op::Put(byte) => self.mark_written(char::from(byte), marks),
+            Op::Write(character) => self.mark_written(character, marks),
+            Op::Repeat(byte, count) => self.mark_repeated(byte, count, marks),
             _ => self.mark_change(profile, op, marks),
         };
         if is_defined { Ok(()) } else { Err(Undefined) }
@@ -74,8 +79,8 @@ impl Terminal {
         requires pen { IsShownPen (full_abilities Utf8 self.old.rows self.old.columns) pen }
         ensures { self.new ≡ record self.old { state = record self.old.state { spot = spot; pen = pen } } }
     {
-        self.display.resume(spot, pen);
-        let _size = self.size();
+        self.spot = spot;
+        self.pen = pen;
     }
 
     /// Shows what another terminal shows that differs from this one in marked places alone.
@@ -105,23 +110,32 @@ impl Terminal {
         requires end { columns.1 ≤ self.old.columns }
         ensures { IsCopied row columns.0 columns.1 self.old other.now self.new }
     {
+        let _before = self.size();
+        let end = columns.1;
+        self.copy_part(other, row, columns.0.min(end), end);
+    }
+
+    // Shows what another terminal shows in columns `from..end` of a row.
+    fn copy_part(&mut self, other: &Terminal, row: u32, from: u32, end: u32)
+        requires rows { other.now.rows ≡ self.old.rows }
+        requires columns { other.now.columns ≡ self.old.columns }
+        requires row { row < self.old.rows }
+        requires order { from ≤ end }
+        requires end { end ≤ self.old.columns }
+        ensures { IsCopied row from end self.old other.now self.new }
+    {
         grid_laws::<Look>();
         let _other = other.size();
         let _before = self.size();
-        let (from, end) = columns;
-        if from < end {
-            self.display.copy_part(&other.display, row, from, end);
-        }
-        let _after = self.size();
+        self.grid.lay(row, from, other.grid.part(row, from, end));
     }
 
     // Writes a character and marks its place; at the margin it returns false and changes nothing.
-    fn mark_written(&mut self, profile: &Profile, character: char, marks: &mut Marks) -> bool
+    fn mark_written(&mut self, character: char, marks: &mut Marks) -> bool
         requires character { IsCharacter character }
-        requires columns { profile.now.columns ≡ self.old.columns }
         requires size { AreOfSize self.old.rows self.old.columns marks.old }
-        ensures answer { result ≡ is_some (character_written profile.now.columns self.old.state character) }
-        ensures state { self.new ≡ gone_on self.old (character_written profile.now.columns self.old.state character) }
+        ensures answer { result ≡ is_some (character_written self.old.columns self.old.state character) }
+        ensures state { self.new ≡ gone_on self.old (character_written self.old.columns self.old.state character) }
         ensures size { AreOfSize self.old.rows self.old.columns marks.new }
         ensures marks { HasMarked self.old.state.grid self.new.state.grid marks.old marks.new }
     {
@@ -132,17 +146,17 @@ impl Terminal {
             return false;
         };
         marks.mark(row, column, column + 1);
-        self.write(profile, character)
+        self.write(character)
     }
 
     // Writes a character several times and marks the rest of the row; if that is undefined, returns false and changes
     // nothing but marks.
-    fn mark_repeated(&mut self, profile: &Profile, byte: u8, count: u32, marks: &mut Marks) -> bool
-        requires has { IsTrue (has profile.now (Repeat byte count)) }
-        requires columns { profile.now.columns ≡ self.old.columns }
+    fn mark_repeated(&mut self, byte: u8, count: u32, marks: &mut Marks) -> bool
+        requires character { IsAscii byte }
+        requires few { count ≤ 500 }
         requires size { AreOfSize self.old.rows self.old.columns marks.old }
-        ensures answer { result ≡ is_some (act profile.now self.old.state (Repeat byte count)) }
-        ensures state { self.new ≡ gone_on self.old (act profile.now self.old.state (Repeat byte count)) }
+        ensures answer { result ≡ is_some (character_repeated self.old.columns self.old.state byte count) }
+        ensures state { self.new ≡ gone_on self.old (character_repeated self.old.columns self.old.state byte count) }
         ensures size { AreOfSize self.old.rows self.old.columns marks.new }
         ensures marks { HasMarked self.old.state.grid self.new.state.grid marks.old marks.new }
     {
@@ -152,7 +166,7 @@ impl Terminal {
         if let Spot::At(row, column) = self.spot() {
             marks.mark(row, column, size.columns);
         }
-        self.repeat(profile, byte, count)
+        self.repeat(byte, count)
     }
 
     // Does what any other operation means and marks what it changes; if it is undefined, returns false and changes
@@ -176,7 +190,8 @@ impl Terminal {
             return false;
         };
         mark_changed(marks, &change);
-        self.make(Some(change))
+        self.make(change);
+        true
     }
 }
 
@@ -190,9 +205,8 @@ fn mark_changed(marks: &mut Marks, change: &Change)
     match *change {
         Change::Moved(_) | Change::Rendered(_) => {}
         Change::ErasedRun(row, from, end) => marks.mark(row, from, end),
-        Change::ErasedFrom(row, _) | Change::LinesInserted(row, _) | Change::LinesDeleted(row, _) => {
-            marks.mark_rows(row, size.rows)
-        }
+        Change::ErasedFrom(row, _) | Change::LinesInserted(row, _) | Change::LinesDeleted(row, _) =>
+            { marks.mark_rows(row, size.rows) }
         Change::ErasedAll | Change::Cleared => marks.mark_rows(0, size.rows),
         Change::CharactersInserted(row, column, _) | Change::CharactersDeleted(row, column, _) => {
             marks.mark(row, column, size.columns)

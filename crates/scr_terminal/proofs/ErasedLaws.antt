@@ -40,7 +40,8 @@ map_range f g a (suc n) h =
     let rest : map f (range_with_len (a + 1) n) ≡ map g (range_with_len (a + 1) n) = map_range f g (a + 1) n (λ k l m. h k (omega arith) (omega arith)) in
     cc
 
-same_places : (rows columns : ℕ) (f g : ℕ → ℕ → LookView) → ((r c : ℕ) → r < rows → c < columns → f r c ≡ g r c) → grid_of rows columns f ≡ grid_of rows columns g
+-- grids of two formulas that agree in each place
+pub same_places : (rows columns : ℕ) (f g : ℕ → ℕ → LookView) → ((r c : ℕ) → r < rows → c < columns → f r c ≡ g r c) → grid_of rows columns f ≡ grid_of rows columns g
 same_places rows columns f g h = map_range _ _ 0 rows (λ r z b. map_range (f r) (g r) 0 columns (λ c y k. h r c (omega arith) (omega arith)))
 
 first_or_second : (p q s : Bool) (old now : LookView) → now ≡ cond p blank old → (q || p) ≡ s → cond q blank now ≡ cond s blank old

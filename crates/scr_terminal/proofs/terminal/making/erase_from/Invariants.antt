@@ -1,6 +1,6 @@
 use Rattle.std.proofs.Common.{◌≡◌, ◌<◌, ◌≤◌, ◌-◌}
-use Rattle.scr_terminal.proofs.DisplayLaws.{blanked, is_from_place_above}
-use Rattle.scr_terminal.proofs.displays.display.erase_from.Given as goal
+use Rattle.scr_terminal.proofs.ErasedLaws.{blanked, is_from_place_above}
+use Rattle.scr_terminal.proofs.terminal.making.erase_from.Given as goal
 
 abbrev pub decreases-loop-below : goal.decreases-loop-below
 decreases-loop-below l = l.rows - l.below

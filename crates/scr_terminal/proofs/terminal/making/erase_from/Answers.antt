@@ -1,8 +1,8 @@
 use Rattle.std.proofs.Common.{◌≡◌, ap, ◌∙◌, ◌<◌, ◌≤◌, arith}
 use Rattle.std.proofs.lemmas.Bool.Decides.{nat_tests}
 use Rattle.scr_cells.specs.Grids.{is_in_run}
-use Rattle.scr_terminal.proofs.DisplayLaws.{blanked, next_row, last_row}
-use Rattle.scr_terminal.proofs.displays.display.erase_from.Goals as goal
+use Rattle.scr_terminal.proofs.ErasedLaws.{blanked, next_row, last_row}
+use Rattle.scr_terminal.proofs.terminal.making.erase_from.Goals as goal
 
 pub loop-below-preserved : goal.loop-below-preserved
 loop-below-preserved c =

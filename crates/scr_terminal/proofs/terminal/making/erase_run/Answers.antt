@@ -1,5 +1,5 @@
-use Rattle.scr_terminal.proofs.DisplayLaws.{run_is_blanked}
-use Rattle.scr_terminal.proofs.displays.display.erase_run.Goals as goal
+use Rattle.scr_terminal.proofs.ErasedLaws.{run_is_blanked}
+use Rattle.scr_terminal.proofs.terminal.making.erase_run.Goals as goal
 
 pub returns : goal.returns
 returns c =
