@@ -12,6 +12,7 @@ mod ShownPenLaws
 mod ProfileLaws
 pub mod OperationLaws
 mod StepLaws
+mod DefinedLaws
 mod RunTextLaws
 pub mod RenderingLaws
 pub mod AdmissionLaws

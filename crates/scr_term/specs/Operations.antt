@@ -11,5 +11,6 @@ pub mod Pieces
 pub mod Texts
 pub mod Painted
 pub mod Laws
+pub mod Defined
 pub mod Larger
 pub mod Bundled

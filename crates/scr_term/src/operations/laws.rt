@@ -3,6 +3,7 @@
 ghost use Rattle.scr_term.specs.Operations.Bundled.{BundledIsEcma48};
 ghost use Rattle.scr_term.specs.Operations.Ecma48.{Ecma48Laws};
 ghost use Rattle.scr_term.specs.Operations.Larger.{MovesRefuseNothing};
+ghost use Rattle.scr_term.specs.Operations.Defined.{DefinedLaws};
 ghost use Rattle.scr_term.specs.Operations.Laws.{BlankLaws, BytesActAsTheirOperation, BytesActAsTheirOperations, LookGridLaws, ProfilesHave, RunLaws, ShownPenLaws, StepsKeepStates};
 
 use scr_cells::character_laws;
@@ -84,4 +85,11 @@ pub fn look_grid_laws()
 /// shown is a pen, and a profile turns on attributes that it knows.
 pub fn shown_pen_laws()
     ensures { ShownPenLaws }
+{}
+
+/// Whether an operation is defined depends on the cursor's position and the pen, not on what the
+/// screen shows. For `Home`, `Move` and `Clear` the pen alone decides; `Reset` is defined from every
+/// state, or from none.
+pub fn defined_laws()
+    ensures { DefinedLaws }
 {}
