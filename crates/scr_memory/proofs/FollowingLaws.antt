@@ -47,7 +47,7 @@ character_stepped abilities byte memory next spot pen =
     })
     ∙ sym (λ i. record memory { state = next; known_spot = spot i; known_pen = pen i })
 
-one_character : (profile : ProfileView) (op : Op) (memory : MemoryView) (next : TerminalState) → is_character_op op ≡ true → memory.known_spot ≡ true → memory.known_pen ≡ true
+pub one_character : (profile : ProfileView) (op : Op) (memory : MemoryView) (next : TerminalState) → is_character_op op ≡ true → memory.known_spot ≡ true → memory.known_pen ≡ true
     → step profile memory.state op ≡ Some next → followed profile op memory ≡ record memory { state = next }
 one_character profile (Put byte) memory next is spot pen made = ap (stepped (abilities profile) (Put byte) memory) made ∙ character_stepped (abilities profile) byte memory next spot pen
 one_character profile op memory next is spot pen made = (cc)

@@ -4,3 +4,4 @@ pub mod FollowingLaws
 pub mod MemoryRunLaws
 pub mod MemoryViewLaws
 pub mod RememberedRowLaws
+pub mod TryingLaws

@@ -1,3 +1,4 @@
 pub mod Code
 pub mod Memories
 pub mod MemoryRuns
+pub mod Spares

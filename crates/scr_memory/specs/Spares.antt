@@ -1,15 +1,13 @@
 -- A second terminal, on which operations are tried before they are sent. curs_refresh(3X), doupdate().
 use Rattle.std.specs.Prelude.{ℕ, ◌≡◌, ◌<◌, ◌&&◌, ◌||◌, Bool, true, false, List, [], ◌∷◌}
 use Rattle.std.specs.Option.{is_some}
-use Rattle.scr_cells.specs.Grids.{grid_at}
-use Rattle.scr_cells.specs.LookViews.{blank}
 use Rattle.scr_term.specs.declared.operations.operation.Op.{Op}
 use Rattle.scr_term.specs.declared.operations.operation.Op.TheVariants.{Reset}
 use Rattle.scr_term.specs.Operations.Abilities.{Abilities}
 use Rattle.scr_term.specs.Operations.Profiles.{ProfileView, abilities}
 use Rattle.scr_term.specs.Operations.Steps.{step}
-use Rattle.scr_terminal.specs.Marks.{AreNone, MarksView, is_marked}
-use Rattle.scr_memory.specs.Memories.{MemoryView, followed, has_one_pen, is_known, places_spot}
+use Rattle.scr_terminal.specs.Marks.{AreNone, DifferInMarks, HasMarked, MarksView, is_marked}
+use Rattle.scr_memory.specs.Memories.{MemoryView, followed, has_one_pen, places_spot}
 
 -- What the tried operations led to, with how much of it is known; and the marked places.
 pub record SpareView : Type 0 where
@@ -21,16 +19,30 @@ pub record IsSpare (spare : SpareView) : Type 0 where
   pub rows : spare.marks.rows ≡ spare.memory.rows
   pub columns : spare.marks.columns ≡ spare.memory.columns
 
--- The spare is that of a memory: it is of the same size, and outside the marked places it shows what is remembered.
+-- The spare is that of a memory: it is of the same size, and shows what is remembered except in marked places.
 pub record IsSpareOf (memory : MemoryView) (spare : SpareView) : Type 0 where
   pub rows : spare.memory.rows ≡ memory.rows
   pub columns : spare.memory.columns ≡ memory.columns
-  pub same : (r c : ℕ) → r < memory.rows → c < memory.columns → is_marked spare.marks r c ≡ false → grid_at blank spare.memory.state.grid r c ≡ grid_at blank memory.state.grid r c
+  pub same : DifferInMarks spare.marks spare.memory.state.grid memory.state.grid
 
 -- The spare shows what is remembered in every place, and nothing is marked.
 pub record IsReady (memory : MemoryView) (spare : SpareView) : Type 0 where
-  pub of : IsSpareOf memory spare
+  pub rows : spare.memory.rows ≡ memory.rows
+  pub columns : spare.memory.columns ≡ memory.columns
+  pub grid : spare.memory.state.grid ≡ memory.state.grid
   pub none : AreNone spare.marks
+
+-- Operations were executed on the spare: what they changed is marked.
+pub record HasTried (old new : SpareView) : Type 0 where
+  pub rows : new.memory.rows ≡ old.memory.rows
+  pub columns : new.memory.columns ≡ old.memory.columns
+  pub high : new.marks.rows ≡ old.marks.rows
+  pub wide : new.marks.columns ≡ old.marks.columns
+  pub marks : HasMarked old.memory.state.grid new.memory.state.grid old.marks new.marks
+
+-- Every place of the screen is marked.
+abbrev pub IsAllMarked : SpareView → Type 0
+IsAllMarked spare = (r c : ℕ) → r < spare.memory.rows → c < spare.memory.columns → is_marked spare.marks r c ≡ true
 
 -- The operation turns attributes off, in default colours.
 abbrev pub is_reset : Op → Bool
@@ -47,3 +59,8 @@ abbrev pub are_sure : ProfileView → List Op → MemoryView → Bool
 are_sure profile [] memory = true
 are_sure profile (op ∷ ops) memory =
     (is_sure (abilities profile) memory op && is_some (step profile memory.state op)) && are_sure profile ops (followed profile op memory)
+
+-- A spare that shows what is remembered is the memory's, and stays ready where the memory changes but for what it shows.
+pub record SpareLaws : Type 0 where
+  pub of : (memory : MemoryView) (spare : SpareView) → IsReady memory spare → IsSpareOf memory spare
+  pub still : (memory less : MemoryView) (spare : SpareView) → less.rows ≡ memory.rows → less.columns ≡ memory.columns → less.state.grid ≡ memory.state.grid → IsReady memory spare → IsReady less spare

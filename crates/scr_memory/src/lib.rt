@@ -4,6 +4,8 @@
 mod known_rows;
 mod laws;
 mod memories;
+mod spares;
 
 pub use laws::{known_memories, memory_laws, memory_runs};
 pub use memories::Memory;
+pub use spares::{Spare, spare_laws};

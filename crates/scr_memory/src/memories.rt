@@ -7,6 +7,7 @@ ghost use Rattle.scr_term.specs.Operations.Steps.{step};
 ghost use Rattle.scr_memory.specs.Memories.{IsMemory, all_followed, changes_cells, clears, disturbed, followed, forgotten, has_one_pen, is_known, is_known_row, is_placed, known_from, loses_rows, made_plain, moves_rows, pen_if_known, places_spot, remembered, row_looks, rows_erased, rows_followed, sets_pen, spot_if_known, stepped, unknown};
 ghost use Rattle.scr_cells.specs.Grids.{grid_row};
 ghost use Rattle.scr_memory.specs.Code.Remembering.{gone_to};
+ghost use Rattle.scr_memory.specs.Spares.{are_sure};
 
 use crate::known_rows::{are_all, rows_there, set_all, set_one, set_run};
 use scr_cells::{Look, NoMemory, Pen, Size};
@@ -23,13 +24,13 @@ use std::marker::Model;
 /// changes.
 #[derive(Drop)]
 pub struct Memory {
-    terminal: Terminal,
+    pub(crate) terminal: Terminal,
     // For each row, whether what it shows is known.
-    rows: Vec<bool>,
+    pub(crate) rows: Vec<bool>,
     // Whether every row is known.
-    all_rows: bool,
-    spot: bool,
-    pen: bool,
+    pub(crate) all_rows: bool,
+    pub(crate) spot: bool,
+    pub(crate) pen: bool,
 }
 
 impl Model for Memory {
@@ -74,6 +75,20 @@ impl Memory {
             all_rows: true,
             spot: true,
             pen: true,
+        })
+    }
+
+    /// Memory of the same, with the same known of it. Fails only when memory runs out.
+    pub fn try_clone(&self, alloc: Global) -> Result<Memory, NoMemory>
+        ensures { IfOk result (λ memory. memory ≡ self.now) }
+    {
+        let _size = self.size();
+        Ok(Memory {
+            terminal: self.terminal.try_clone(alloc)?,
+            rows: Vec::from_slice(alloc, &self.rows)?,
+            all_rows: self.all_rows,
+            spot: self.spot,
+            pen: self.pen,
         })
     }
 
@@ -240,12 +255,13 @@ impl Memory {
 
     // Follows the leading characters of `ops` that fit in the cursor's row, and returns how many. What is known stays
     // the same.
-    fn follow_characters(&mut self, profile: &Profile, ops: &[Op]) -> usize
+    pub(crate) fn follow_characters(&mut self, profile: &Profile, ops: &[Op]) -> usize
         requires rows { profile.now.rows ≡ self.old.rows }
         requires columns { profile.now.columns ≡ self.old.columns }
         requires spot { self.old.known_spot ≡ true }
         requires pen { self.old.known_pen ≡ true }
         ensures inside { result ≤ length ops.now }
+        ensures sure { are_sure profile.now (take result ops.now) self.old ≡ true }
         ensures followed { self.new ≡ all_followed profile.now (take result ops.now) self.old }
     {
         let count = self.terminal.step_characters(profile, ops);
@@ -254,7 +270,7 @@ impl Memory {
     }
 
     // Steps the remembered state by an operation; if that is undefined, returns false and changes nothing.
-    fn step(&mut self, profile: &Profile, op: Op) -> bool
+    pub(crate) fn step(&mut self, profile: &Profile, op: Op) -> bool
         requires rows { profile.now.rows ≡ self.old.rows }
         requires columns { profile.now.columns ≡ self.old.columns }
         ensures answer { result ≡ is_some (step profile.now self.old.state op) }
@@ -276,7 +292,7 @@ impl Memory {
     }
 
     // Updates what is known, after an operation that was defined and led to the remembered state.
-    fn learn(&mut self, profile: &Profile, op: Op)
+    pub(crate) fn learn(&mut self, profile: &Profile, op: Op)
         ensures { self.new ≡ stepped (abilities profile.now) op self.old (Some self.old.state) }
     {
         self.learn_rows(op);
@@ -343,7 +359,7 @@ impl Memory {
     }
 
     // Every row becomes known; if all were, there is nothing to do.
-    fn know_rows(&mut self)
+    pub(crate) fn know_rows(&mut self)
         ensures { self.new ≡ record self.old { known_rows = replicate (length self.old.known_rows) true } }
     {
         if !self.all_rows {
@@ -361,7 +377,7 @@ impl Memory {
 }
 
 // Whether an operation leaves the cursor in the same place wherever it was before.
-fn places_spot(op: Op) -> bool
+pub(crate) fn places_spot(op: Op) -> bool
     ensures { result ≡ places_spot op }
 {
     matches!(op, Op::Home | Op::Move(..) | Op::Clear)
@@ -409,7 +425,7 @@ fn clears(op: Op) -> bool
 }
 
 // Whether a terminal shows no attribute and no colour.
-fn has_one_pen(profile: &Profile) -> bool
+pub(crate) fn has_one_pen(profile: &Profile) -> bool
     ensures { result ≡ has_one_pen (abilities profile.now) }
 {
     profile.shows().0 == 0 && !profile.colours()

@@ -69,7 +69,9 @@ impl Terminal {
             return 0;
         };
         let count = self.step_characters(profile, ops);
-        marks.mark(row, column, column + count as u32);
+        if count > 0 {
+            marks.mark(row, column, column + count as u32);
+        }
         count
     }
 
