@@ -7,7 +7,7 @@ use Rattle.std.specs.Option.{is_some, unwrap_or}
 use Rattle.scr_term.specs.declared.operations.operation.Op.{Op}
 use Rattle.scr_term.specs.declared.operations.operation.Op.TheVariants.{Home, Put}
 use Rattle.scr_term.specs.Operations.Laws.{RunLaws}
-use Rattle.scr_term.specs.Operations.Profiles.{ProfileView, abilities}
+use Rattle.scr_term.specs.Operations.Profiles.{ProfileView}
 use Rattle.scr_term.specs.Operations.States.{TerminalState}
 use Rattle.scr_term.specs.Operations.Steps.{runs, step}
 use Rattle.scr_terminal.specs.Characters.{is_character_op}
@@ -108,12 +108,12 @@ characters_sure profile (op ∷ ops) memory next is spot pen made =
     let parts = both _ _ is in
     let steps = goes_on (step profile memory.state op) (λ state. runs profile state ops) next made in
     let defined : is_some (step profile memory.state op) ≡ true = ap is_some steps.1 in
-    let known : is_sure (abilities profile) memory op ≡ true = known_sure op in
+    let known : is_sure profile memory op ≡ true = known_sure op in
     let rest : are_sure profile ops (followed profile op memory) ≡ true =
     ap (are_sure profile ops) (one_character profile op memory steps.0 parts.0 spot pen steps.1) ∙ characters_sure profile ops (record memory { state = steps.0 }) next parts.1 spot pen steps.2 in
     (λ i. (known i && defined i) && rest i)
   where
-    known_sure : (op : Op) → is_sure (abilities profile) memory op ≡ true
+    known_sure : (op : Op) → is_sure profile memory op ≡ true
     known_sure op = grind (arith, spot, pen)
 
 pub are_characters_sure : (profile : ProfileView) (ops : List Op) (memory : MemoryView) → list_all is_character_op ops ≡ true → memory.known_spot ≡ true → memory.known_pen ≡ true
@@ -127,7 +127,7 @@ are_characters_sure profile ops memory is spot pen there = by (runs profile memo
 -- some operations, and then others
 sure_joined : (profile : ProfileView) (ops more : List Op) (memory : MemoryView) → are_sure profile (ops ++ more) memory ≡ (are_sure profile ops memory && are_sure profile more (all_followed profile ops memory))
 sure_joined profile [] more memory = refl
-sure_joined profile (op ∷ ops) more memory = by (is_sure (abilities profile) memory op && is_some (step profile memory.state op)) (sure_joined profile ops more (followed profile op memory))
+sure_joined profile (op ∷ ops) more memory = by (is_sure profile memory op && is_some (step profile memory.state op)) (sure_joined profile ops more (followed profile op memory))
   where
     by : (b : Bool) → are_sure profile (ops ++ more) (followed profile op memory) ≡ (are_sure profile ops (followed profile op memory) && are_sure profile more (all_followed profile ops (followed profile op memory)))
         → (b && are_sure profile (ops ++ more) (followed profile op memory)) ≡ ((b && are_sure profile ops (followed profile op memory)) && are_sure profile more (all_followed profile ops (followed profile op memory)))
@@ -149,11 +149,11 @@ unsure_on profile ops i old mid before is none =
     ∙ (λ j. before j && (ap (are_sure profile (drop i ops)) (sym is) ∙ ap (λ xs. are_sure profile xs mid) (sym (rest_of ops i)) ∙ none) j)
 
 -- one operation
-pub one_sure : (profile : ProfileView) (ops : List Op) (memory : MemoryView) → 0 < length ops → (is_sure (abilities profile) memory (get_or ops 0 Home) && is_some (step profile memory.state (get_or ops 0 Home))) ≡ true → are_sure profile (take 1 ops) memory ≡ true
+pub one_sure : (profile : ProfileView) (ops : List Op) (memory : MemoryView) → 0 < length ops → (is_sure profile memory (get_or ops 0 Home) && is_some (step profile memory.state (get_or ops 0 Home))) ≡ true → are_sure profile (take 1 ops) memory ≡ true
 one_sure profile [] memory some e = absurd (omega (arith, some))
 one_sure profile (op ∷ ops) memory some e = ap (λ b. b && true) e
 
-pub one_unsure : (profile : ProfileView) (ops : List Op) (memory : MemoryView) → 0 < length ops → (is_sure (abilities profile) memory (get_or ops 0 Home) && is_some (step profile memory.state (get_or ops 0 Home))) ≡ false → are_sure profile ops memory ≡ false
+pub one_unsure : (profile : ProfileView) (ops : List Op) (memory : MemoryView) → 0 < length ops → (is_sure profile memory (get_or ops 0 Home) && is_some (step profile memory.state (get_or ops 0 Home))) ≡ false → are_sure profile ops memory ≡ false
 one_unsure profile [] memory some e = absurd (omega (arith, some))
 one_unsure profile (op ∷ ops) memory some e = ap (λ b. b && are_sure profile ops (followed profile op memory)) e
 

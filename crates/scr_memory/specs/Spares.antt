@@ -1,10 +1,10 @@
 -- A second terminal, on which operations are tried before they are sent. curs_refresh(3X), doupdate().
-use Rattle.std.specs.Prelude.{ℕ, ◌≡◌, ◌<◌, ◌&&◌, ◌||◌, Bool, true, false, List, [], ◌∷◌}
+use Rattle.std.specs.Prelude.{ℕ, ◌≡◌, ◌<◌, ◌&&◌, ◌||◌, not, Bool, true, false, List, [], ◌∷◌}
 use Rattle.std.specs.Option.{is_some}
+use Rattle.scr_term.specs.declared.operations.capability.Capability.TheVariants.{Sgr0}
 use Rattle.scr_term.specs.declared.operations.operation.Op.{Op}
 use Rattle.scr_term.specs.declared.operations.operation.Op.TheVariants.{Reset}
-use Rattle.scr_term.specs.Operations.Abilities.{Abilities}
-use Rattle.scr_term.specs.Operations.Profiles.{ProfileView, abilities}
+use Rattle.scr_term.specs.Operations.Profiles.{ProfileView, abilities, is_there}
 use Rattle.scr_term.specs.Operations.Steps.{step}
 use Rattle.scr_terminal.specs.Marks.{AreNone, DifferInMarks, HasMarked, MarksView, is_marked}
 use Rattle.scr_memory.specs.Memories.{MemoryView, followed, has_one_pen, places_spot}
@@ -49,16 +49,19 @@ abbrev pub is_reset : Op → Bool
 is_reset Reset = true
 is_reset op = false
 
--- What the operation needs is known: the pen, unless the terminal has only one, and, unless the operation places the
--- cursor, the cursor's position. Reset needs nothing.
-abbrev pub is_sure : Abilities → MemoryView → Op → Bool
-is_sure abilities memory op = is_reset op || ((memory.known_pen || has_one_pen abilities) && (memory.known_spot || places_spot op))
+-- The terminal has only one pen, and nothing that turns attributes off.
+abbrev pub needs_no_reset : ProfileView → Bool
+needs_no_reset profile = has_one_pen (abilities profile) && not (is_there profile Sgr0)
+
+-- What the operation needs is known: the pen, unless there is only one and nothing to turn off, and, unless the operation
+-- places the cursor, the cursor's position. Reset needs nothing.
+abbrev pub is_sure : ProfileView → MemoryView → Op → Bool
+is_sure profile memory op = is_reset op || ((memory.known_pen || needs_no_reset profile) && (memory.known_spot || places_spot op))
 
 -- Each operation needs only what is known when it comes, and is defined from the remembered state.
 abbrev pub are_sure : ProfileView → List Op → MemoryView → Bool
 are_sure profile [] memory = true
-are_sure profile (op ∷ ops) memory =
-    (is_sure (abilities profile) memory op && is_some (step profile memory.state op)) && are_sure profile ops (followed profile op memory)
+are_sure profile (op ∷ ops) memory = (is_sure profile memory op && is_some (step profile memory.state op)) && are_sure profile ops (followed profile op memory)
 
 -- A spare that shows what is remembered is the memory's, and stays ready where the memory changes but for what it shows.
 pub record SpareLaws : Type 0 where

@@ -2,11 +2,10 @@
 ghost use Rattle.std.specs.Prelude.{◌≡◌, ◌≤◌, ◌<◌, ◌⊎◌, ◌&&◌, ℕ, false, true, Some, IfOk, OnErr, OnOk, length, take};
 ghost use Rattle.std.specs.Option.{is_some};
 ghost use Rattle.scr_cells.specs.Grids.{grid_row, is_in_run};
-ghost use Rattle.scr_term.specs.Operations.Profiles.{abilities};
 ghost use Rattle.scr_term.specs.Operations.Steps.{runs, step};
 ghost use Rattle.scr_terminal.specs.Marks.{AreNone, AreOfSize, HasAdded, HasMarked, is_marked, marked_in};
 ghost use Rattle.scr_memory.specs.Memories.{IsMemory, all_followed, followed, is_known, is_placed, remembered, unknown};
-ghost use Rattle.scr_memory.specs.Spares.{HasTried, IsAllMarked, IsReady, IsSpare, IsSpareOf, SpareLaws, are_sure, is_reset, is_sure};
+ghost use Rattle.scr_memory.specs.Spares.{HasTried, IsAllMarked, IsReady, IsSpare, IsSpareOf, SpareLaws, are_sure, is_reset, is_sure, needs_no_reset};
 
 use crate::memories::{Memory, has_one_pen, places_spot};
 use scr_cells::{NoMemory, Size};
@@ -136,8 +135,8 @@ impl Spare {
     }
 
     /// Follows operations from what is known, and marks every place. Returns `Undefined` if one is undefined where it
-    /// comes, or needs what is not known then: the pen, unless the terminal has only one, or the cursor's place, unless
-    /// it places the cursor. `Reset` needs nothing.
+    /// comes, or needs what is not known then: the pen, unless the terminal has only one and nothing to turn off, or the
+    /// cursor's place, unless it places the cursor. `Reset` needs nothing.
     pub fn follow(&mut self, profile: &Profile, ops: &[Op]) -> Result<(), Undefined>
         requires rows { self.old.memory.rows ≡ profile.now.rows }
         requires columns { self.old.memory.columns ≡ profile.now.columns }
@@ -305,7 +304,7 @@ impl Memory {
     fn follow_one(&mut self, profile: &Profile, op: Op) -> bool
         requires rows { profile.now.rows ≡ self.old.rows }
         requires columns { profile.now.columns ≡ self.old.columns }
-        ensures answer { result ≡ (is_sure (abilities profile.now) self.old op && is_some (step profile.now self.old.state op)) }
+        ensures answer { result ≡ (is_sure profile.now self.old op && is_some (step profile.now self.old.state op)) }
         ensures followed { result ≡ true → self.new ≡ followed profile.now op self.old }
         ensures same { result ≡ false → self.new ≡ self.old }
     {
@@ -321,10 +320,17 @@ impl Memory {
 
     // Whether what an operation needs is known.
     fn is_sure(&self, profile: &Profile, op: Op) -> bool
-        ensures { result ≡ is_sure (abilities profile.now) self.now op }
+        ensures { result ≡ is_sure profile.now self.now op }
     {
-        is_reset(op) || ((self.pen || has_one_pen(profile)) && (self.spot || places_spot(op)))
+        is_reset(op) || ((self.pen || needs_no_reset(profile)) && (self.spot || places_spot(op)))
     }
+}
+
+// Whether a terminal has only one pen, and nothing that turns attributes off.
+fn needs_no_reset(profile: &Profile) -> bool
+    ensures { result ≡ needs_no_reset profile.now }
+{
+    has_one_pen(profile) && !profile.can_reset()
 }
 
 // Whether an operation turns attributes off, in default colours.
