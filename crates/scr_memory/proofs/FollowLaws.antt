@@ -186,7 +186,7 @@ kept_same profile (Repeat byte n) s p a e f g = (cc)
 kept_same profile op s p a e f g = refl
 
 -- a terminal that shows nothing else has a plain pen
-one_pen : (abilities : Abilities) (pen : PenView) → has_one_pen abilities ≡ true → IsShownPen abilities pen → pen ≡ plain_pen
+pub one_pen : (abilities : Abilities) (pen : PenView) → has_one_pen abilities ≡ true → IsShownPen abilities pen → pen ≡ plain_pen
 one_pen abilities pen e shown =
     let found = both (abilities.shown == 0) (not abilities.colours) e in
     let none : abilities.shown ≡ 0 = grind (arith, nat_tests, found.0) in

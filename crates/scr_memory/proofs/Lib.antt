@@ -5,3 +5,4 @@ pub mod MemoryRunLaws
 pub mod MemoryViewLaws
 pub mod RememberedRowLaws
 pub mod TryingLaws
+pub mod SureLaws

@@ -1,13 +1,14 @@
 -- A second terminal, on which operations are tried before they are sent. curs_refresh(3X), doupdate().
-use Rattle.std.specs.Prelude.{ℕ, ◌≡◌, ◌<◌, ◌&&◌, ◌||◌, not, Bool, true, false, List, [], ◌∷◌}
+use Rattle.std.specs.Prelude.{ℕ, ◌≡◌, ◌<◌, ◌&&◌, ◌||◌, not, Bool, true, false, List, [], ◌∷◌, Some}
 use Rattle.std.specs.Option.{is_some}
 use Rattle.scr_term.specs.declared.operations.capability.Capability.TheVariants.{Sgr0}
 use Rattle.scr_term.specs.declared.operations.operation.Op.{Op}
 use Rattle.scr_term.specs.declared.operations.operation.Op.TheVariants.{Reset}
-use Rattle.scr_term.specs.Operations.Profiles.{ProfileView, abilities, is_there}
-use Rattle.scr_term.specs.Operations.Steps.{step}
+use Rattle.scr_term.specs.Operations.Profiles.{ProfileView, IsProfile, abilities, is_there}
+use Rattle.scr_term.specs.Operations.States.{TerminalState}
+use Rattle.scr_term.specs.Operations.Steps.{runs, step}
 use Rattle.scr_terminal.specs.Marks.{AreNone, DifferInMarks, HasMarked, MarksView, is_marked}
-use Rattle.scr_memory.specs.Memories.{MemoryView, followed, has_one_pen, places_spot}
+use Rattle.scr_memory.specs.Memories.{Agrees, MayBe, MemoryView, followed, has_one_pen, places_spot}
 
 -- What the tried operations led to, with how much of it is known; and the marked places.
 pub record SpareView : Type 0 where
@@ -64,6 +65,9 @@ are_sure profile [] memory = true
 are_sure profile (op ∷ ops) memory = (is_sure profile memory op && is_some (step profile memory.state op)) && are_sure profile ops (followed profile op memory)
 
 -- A spare that shows what is remembered is the memory's, and stays ready where the memory changes but for what it shows.
+-- Operations that need only what is known are defined from every state that agrees.
 pub record SpareLaws : Type 0 where
   pub of : (memory : MemoryView) (spare : SpareView) → IsReady memory spare → IsSpareOf memory spare
   pub still : (memory less : MemoryView) (spare : SpareView) → less.rows ≡ memory.rows → less.columns ≡ memory.columns → less.state.grid ≡ memory.state.grid → IsReady memory spare → IsReady less spare
+  pub sure : (profile : ProfileView) → IsProfile profile → (ops : List Op) (memory : MemoryView) → MayBe (abilities profile) memory → are_sure profile ops memory ≡ true
+      → (old : TerminalState) → Agrees (abilities profile) memory old → (new : TerminalState) × (runs profile old ops ≡ Some new)

@@ -7,9 +7,10 @@ ghost use Rattle.scr_terminal.specs.Marks.{AreNone, AreOfSize, HasAdded, HasMark
 ghost use Rattle.scr_memory.specs.Memories.{IsMemory, all_followed, followed, is_known, is_placed, remembered, unknown};
 ghost use Rattle.scr_memory.specs.Spares.{HasTried, IsAllMarked, IsReady, IsSpare, IsSpareOf, SpareLaws, are_sure, is_reset, is_sure, needs_no_reset};
 
+use crate::laws::memory_runs;
 use crate::memories::{Memory, has_one_pen, places_spot};
 use scr_cells::{NoMemory, Size};
-use scr_term::{Op, Profile, run_laws};
+use scr_term::{Op, Profile, defined_laws, run_laws};
 use scr_terminal::{Marks, Undefined};
 use std::alloc::Global;
 use std::marker::Model;
@@ -340,7 +341,11 @@ fn is_reset(op: Op) -> bool
     matches!(op, Op::Reset)
 }
 
-/// A spare that shows what is remembered is the memory's, and stays ready for it when something is forgotten.
+/// A spare that shows what is remembered is the memory's, and stays ready for it when something is forgotten. Operations
+/// that need only what is known are defined from every state that agrees with it.
 pub fn spare_laws()
     ensures { SpareLaws }
-{}
+{
+    defined_laws();
+    memory_runs();
+}

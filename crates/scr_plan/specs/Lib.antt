@@ -1,3 +1,4 @@
+pub mod Checks
 pub mod Code
 pub mod Plans
 pub mod Repaints

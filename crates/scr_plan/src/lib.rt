@@ -2,6 +2,7 @@
 #![tactic(auto)]
 
 mod blanks;
+mod checking;
 mod joined_changes;
 mod joined_rows;
 mod joining;
@@ -30,6 +31,7 @@ mod unknown_rows;
 mod visiting;
 mod wiping;
 
+pub use checking::NotAPlan;
 pub use joined_changes::joined;
 pub use painting::scratch;
 pub use plain_repaint::plain;

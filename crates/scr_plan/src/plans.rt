@@ -247,7 +247,7 @@ fn nothing(alloc: Global, update: &Update<'_>) -> Result<Ops, NoMemory>
 
 // Whether only what differs is to be painted: all is known, and no repaint of the whole screen was
 // asked for.
-fn wants_changes_alone(memory: &Memory, wanted: &Virtual) -> bool
+pub(crate) fn wants_changes_alone(memory: &Memory, wanted: &Virtual) -> bool
     ensures value { result ≡ is_known memory.now && not wanted.now.repaint }
     ensures known { result ≡ true → is_known memory.now ≡ true }
 {

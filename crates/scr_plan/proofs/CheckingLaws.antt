@@ -1,0 +1,79 @@
+-- A list of operations that was tried is a plan, where all is known; and what is refused is none.
+use Rattle.std.proofs.Common.{◌≡◌, ℕ, zero, suc, ◌+◌, ◌*◌, ◌-◌, ◌<◌, ◌≤◌, ◌&&◌, ◌||◌, not, Bool, true, false, refl, sym, ◌∙◌, ap, arith, subst, List, [], ◌∷◌, ◌++◌, drop, take, length, get_or, length-drop, Option, Some, None, IfSome, OnErr, Result, Ok, Err, option_and_then, if◌then◌else◌}
+use Rattle.std.proofs.Math.Seq.{take-add}
+use Rattle.std.proofs.lemmas.List.{take_all}
+use Rattle.std.specs.Option.{is_some, unwrap_or}
+use Rattle.scr_cells.specs.Grids.{GridLaws, IsGrid, grid_at}
+use Rattle.scr_cells.specs.LookViews.{LookView, blank}
+use Rattle.scr_cells.specs.PictureViews.{IsPicture}
+use Rattle.scr_virtual.specs.VirtualViews.{VirtualView}
+use Rattle.scr_term.specs.declared.operations.operation.Op.{Op}
+use Rattle.scr_term.specs.declared.operations.operation.Op.TheVariants.{Home}
+use Rattle.scr_term.specs.declared.operations.operation.Spot.TheVariants.{At}
+use Rattle.scr_term.specs.Operations.Laws.{RunLaws}
+use Rattle.scr_term.specs.Operations.Profiles.{ProfileView, IsProfile, abilities}
+use Rattle.scr_term.specs.Operations.States.{TerminalState, IsState}
+use Rattle.scr_term.specs.Operations.Steps.{runs, step}
+use Rattle.scr_term.specs.Operations.Texts.{all_bytes}
+use Rattle.scr_memory.specs.Memories.{Agrees, MayBe, MemoryView, all_followed, is_known, is_nothing_known}
+use Rattle.scr_memory.specs.MemoryRuns.{KnownMemories, MemoryRuns}
+use Rattle.scr_plan.proofs.RememberedPlanLaws.{agrees_itself, painted_at}
+use Rattle.scr_plan.proofs.ScratchLaws.{grid_is_painted}
+use Rattle.scr_plan.proofs.ShortPlanLaws.{not_nothing}
+use Rattle.scr_plan.specs.Plans.{IsPlan, bound_of}
+use Rattle.scr_plan.specs.Scratch.{Fits, RunsToShow, look_at}
+
+-- what a plan says of the remembered state, where that is possible
+pub plan_says : (profile : ProfileView) (virtual : VirtualView) (memory : MemoryView) → MayBe (abilities profile) memory → (ops : List Op) → IsPlan profile memory virtual ops → RunsToShow profile memory.state ops virtual.picture
+plan_says profile virtual memory may ops plan = plan.shows memory.state (record { state = may.state; agrees = λ calm. agrees_itself (abilities profile) memory may })
+
+-- a list that is undefined is no plan
+pub undefined_is_none : (profile : ProfileView) (virtual : VirtualView) (memory : MemoryView) → MayBe (abilities profile) memory → (ops : List Op) → is_some (runs profile memory.state ops) ≡ false → IsPlan profile memory virtual ops → ⊥
+undefined_is_none profile virtual memory may ops none plan =
+    let shown = plan_says profile virtual memory may ops plan in
+    never (sym none ∙ ap is_some shown.run)
+  where
+    never : false ≡ true → ⊥
+    never e = (cc)
+
+-- nor is one after which a place shows something else, or the cursor is elsewhere
+pub unlike_is_none : (profile : ProfileView) (virtual : VirtualView) → IsPicture virtual.picture → (memory : MemoryView) → MayBe (abilities profile) memory → (ops : List Op) (new : TerminalState) → runs profile memory.state ops ≡ Some new
+    → (r c : ℕ) → r < virtual.picture.rows → c < virtual.picture.columns → (grid_at blank new.grid r c ≡ look_at profile virtual.picture (r, c) → ⊥) → IsPlan profile memory virtual ops → ⊥
+unlike_is_none profile virtual k memory may ops new run r c high wide other plan =
+    let shown = plan_says profile virtual memory may ops plan in
+    let same : shown.new ≡ new = same_some (sym shown.run ∙ run) in
+    other (ap (λ (state : TerminalState). grid_at blank state.grid r c) (sym same) ∙ ap (λ grid. grid_at blank grid r c) shown.shows.grid ∙ painted_at (abilities profile) virtual.picture r c k high wide)
+  where
+    same_some : {a b : TerminalState} → Some a ≡ Some b → a ≡ b
+    same_some e = (cc)
+
+-- ---- the plan
+
+pub known_plan : RunLaws → KnownMemories → MemoryRuns → GridLaws LookView → (profile : ProfileView) → IsProfile profile → (virtual : VirtualView) → IsPicture virtual.picture → Fits profile virtual.picture
+    → (memory : MemoryView) → IsGrid profile.rows profile.columns memory.state.grid → is_known memory ≡ true → virtual.repaint ≡ false
+    → (ops : List Op) (new : TerminalState) → runs profile memory.state ops ≡ Some new → IsGrid profile.rows profile.columns new.grid
+    → ((r c : ℕ) → r < virtual.picture.rows → c < virtual.picture.columns → grid_at blank new.grid r c ≡ look_at profile virtual.picture (r, c))
+    → IfSome virtual.picture.wish (λ wish. new.spot ≡ At wish.0 wish.1)
+    → length ops ≤ virtual.picture.rows * virtual.picture.columns * 12 + 4
+    → length (all_bytes profile ops) ≤ length (all_bytes profile (bound_of profile memory virtual))
+    → IsPlan profile memory virtual ops
+known_plan laws known_laws memory_laws grids profile p virtual k fits memory whole known calm ops new run wide shown placed few cheap =
+    let lines : IsGrid profile.rows profile.columns virtual.picture.lines = rw (← fits.rows, ← fits.columns) k.grid in
+    let shows : (old : TerminalState) → IsState (abilities profile) old → runs profile old ops ≡ Some new → RunsToShow profile old ops virtual.picture = λ old state run. record {
+      new = new;
+      run = run;
+      shows = record {
+        grid = grid_is_painted grids profile virtual.picture lines new.grid wide (λ r c high wide. shown r c (omega (arith, high, fits.rows)) (omega (arith, wide, fits.columns)));
+        spot = placed;
+      };
+      state = laws.kept profile p old new state ops run;
+    } in
+    record {
+      shows = λ old start. shows old start.state (ap (λ state. runs profile state ops) (sym (known_laws.state (abilities profile) memory whole old (start.agrees calm) known)) ∙ run);
+      agrees = λ may old new start run. memory_laws.follows profile p memory may old new ops (start.agrees calm) run;
+      known = λ may. memory_laws.stays_known profile p memory may memory.state new ops (agrees_itself (abilities profile) memory may) run known;
+      begins = λ unknown there. not_nothing memory virtual.repaint (ap (λ b. is_known memory && not b) calm ∙ ap (λ b. b && true) known) unknown;
+      few = few;
+      cheap = cheap;
+    }
+
