@@ -86,6 +86,15 @@ impl Spare {
         self.marks.mark(row, from, end);
     }
 
+    /// Marks every place, so that all is compared.
+    pub fn mark_all(&mut self)
+        ensures memory { self.new.memory ≡ self.old.memory }
+        ensures marked { IsAllMarked self.new }
+    {
+        let size = self.memory.size();
+        self.marks.mark_rows(0, size.rows);
+    }
+
     /// The first row with a mark, and the end of the rows with marks.
     pub fn marked_rows(&self) -> (u32, u32)
         ensures end { result.1 ≤ self.now.memory.rows }
@@ -148,8 +157,7 @@ impl Spare {
         ensures columns { self.new.memory.columns ≡ self.old.memory.columns }
         ensures marked { IsAllMarked self.new }
     {
-        let size = self.memory.size();
-        self.marks.mark_rows(0, size.rows);
+        self.mark_all();
         self.memory.follow_surely(profile, ops)
     }
 

@@ -5,7 +5,7 @@ use Rattle.std.proofs.lemmas.List.{take_all}
 use Rattle.std.specs.Option.{is_some, unwrap_or}
 use Rattle.scr_cells.specs.Grids.{GridLaws, IsGrid, grid_at}
 use Rattle.scr_cells.specs.LookViews.{LookView, blank}
-use Rattle.scr_cells.specs.PictureViews.{IsPicture}
+use Rattle.scr_cells.specs.PictureViews.{IsPicture, PictureView}
 use Rattle.scr_virtual.specs.VirtualViews.{VirtualView}
 use Rattle.scr_term.specs.declared.operations.operation.Op.{Op}
 use Rattle.scr_term.specs.declared.operations.operation.Op.TheVariants.{Home}
@@ -20,6 +20,9 @@ use Rattle.scr_memory.specs.MemoryRuns.{KnownMemories, MemoryRuns}
 use Rattle.scr_plan.proofs.RememberedPlanLaws.{agrees_itself, painted_at}
 use Rattle.scr_plan.proofs.ScratchLaws.{grid_is_painted}
 use Rattle.scr_plan.proofs.ShortPlanLaws.{not_nothing}
+use Rattle.scr_memory.specs.Spares.{HasTried, IsAllMarked, IsSpareOf, SpareView}
+use Rattle.scr_terminal.specs.Marks.{is_marked}
+use Rattle.scr_plan.specs.Checks.{ShowsMarked, ShowsUnmarked}
 use Rattle.scr_plan.specs.Plans.{IsPlan, bound_of}
 use Rattle.scr_plan.specs.Scratch.{Fits, RunsToShow, look_at}
 
@@ -77,3 +80,43 @@ known_plan laws known_laws memory_laws grids profile p virtual k fits memory who
       cheap = cheap;
     }
 
+-- ---- what the marks leave out
+
+-- each place shows the picture: a marked one as was compared, another as before
+pub all_shown : (profile : ProfileView) (virtual : VirtualView) (memory : MemoryView) (marked tried : SpareView) → marked.memory ≡ memory → marked.marks.rows ≡ virtual.picture.rows → marked.marks.columns ≡ virtual.picture.columns
+    → ShowsUnmarked profile memory virtual marked.marks → HasTried marked tried → ShowsMarked profile tried virtual.picture
+    → (r c : ℕ) → r < virtual.picture.rows → c < virtual.picture.columns → grid_at blank tried.memory.state.grid r c ≡ look_at profile virtual.picture (r, c)
+all_shown profile virtual memory marked tried is rows columns unmarked has shown r c high wide = by (is_marked tried.marks r c) refl
+  where
+    by : (b : Bool) → is_marked tried.marks r c ≡ b → grid_at blank tried.memory.state.grid r c ≡ look_at profile virtual.picture (r, c)
+    by true e = shown r high c wide e
+    by false e =
+        let before = has.marks r c (omega (arith, high, rows)) (omega (arith, wide, columns)) e in
+        before.1 ∙ ap (λ (m : MemoryView). grid_at blank m.state.grid r c) is ∙ unmarked r c high wide before.0
+
+-- where every place is marked, each was compared
+pub all_compared : (profile : ProfileView) (picture : PictureView) (tried : SpareView) → tried.memory.rows ≡ picture.rows → tried.memory.columns ≡ picture.columns → IsAllMarked tried → ShowsMarked profile tried picture
+    → (r c : ℕ) → r < picture.rows → c < picture.columns → grid_at blank tried.memory.state.grid r c ≡ look_at profile picture (r, c)
+all_compared profile picture tried rows columns marked shown r c high wide = shown r high c wide (marked r c (omega (arith, high, rows)) (omega (arith, wide, columns)))
+
+-- what is tried after that leaves every place marked
+pub still_marked : (old new : SpareView) → old.marks.rows ≡ old.memory.rows → old.marks.columns ≡ old.memory.columns → IsAllMarked old → HasTried old new → IsAllMarked new
+still_marked old new rows columns all has r c high wide = by (is_marked new.marks r c) refl
+  where
+    never : {P : Type 0} → true ≡ false → P
+    never e = (cc)
+
+    by : (b : Bool) → is_marked new.marks r c ≡ b → is_marked new.marks r c ≡ true
+    by true e = e
+    by false e = never (sym (all r c (omega (arith, high, has.rows)) (omega (arith, wide, has.columns))) ∙ (has.marks r c (omega (arith, high, has.rows, rows)) (omega (arith, wide, has.columns, columns)) e).0)
+
+-- a spare of which every place is marked is that of any memory of its size
+pub marked_is_of : (memory : MemoryView) (spare : SpareView) → spare.marks.rows ≡ spare.memory.rows → spare.marks.columns ≡ spare.memory.columns → spare.memory.rows ≡ memory.rows → spare.memory.columns ≡ memory.columns → IsAllMarked spare → IsSpareOf memory spare
+marked_is_of memory spare high wide rows columns all = record {
+  rows = rows;
+  columns = columns;
+  same = λ r c tall broad out. never (sym (all r c (omega (arith, tall, high)) (omega (arith, broad, wide))) ∙ out);
+}
+  where
+    never : {P : Type 0} → true ≡ false → P
+    never e = (cc)

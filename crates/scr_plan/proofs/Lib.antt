@@ -24,3 +24,5 @@ pub mod ShiftLaws
 pub mod ShortPlanLaws
 pub mod SkipLaws
 pub mod StillLaws
+mod CheckingLaws
+mod SureLaws

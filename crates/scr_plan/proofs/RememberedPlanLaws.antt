@@ -123,7 +123,7 @@ was_outside old new changes r c out = grind arith
 -- ---- after an update
 
 -- what the painted picture has in a place
-painted_at : (able : Abilities) (picture : PictureView) (r c : ℕ) → IsPicture picture → r < picture.rows → c < picture.columns
+pub painted_at : (able : Abilities) (picture : PictureView) (r c : ℕ) → IsPicture picture → r < picture.rows → c < picture.columns
     → grid_at blank (painted able picture) r c ≡ seen_on able picture.pairs (grid_at blank_cell picture.lines r c)
 painted_at able picture r c k high wide =
     let f = seen_on able picture.pairs in

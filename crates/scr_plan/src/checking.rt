@@ -1,6 +1,7 @@
 //! The check of a list of operations before it is sent: whether it is a plan, whoever made it. The definitions are in
 //! `specs/Checks.antt`.
 ghost use Rattle.std.specs.Prelude.{ℕ, ◌≡◌, ◌+◌, ◌*◌, ◌<◌, ◌≤◌, ◌==◌, ◌&&◌, not, All, IfSome, OnErr, OnOk, Some, false, length, true};
+ghost use Rattle.std.specs.Option.{is_some};
 ghost use Rattle.scr_cells.specs.Grids.{grid_at};
 ghost use Rattle.scr_cells.specs.LookViews.{blank};
 ghost use Rattle.scr_term.specs.declared.operations.capability.Capability.TheVariants.{Sgr0};
@@ -13,7 +14,7 @@ ghost use Rattle.scr_terminal.specs.Marks.{AreNone, HasAdded};
 ghost use Rattle.scr_virtual.specs.Ranges.{in_range};
 ghost use Rattle.scr_plan.specs.Code.Planning.{range_by};
 ghost use Rattle.scr_memory.specs.Memories.{all_followed, clears, is_known, is_placed};
-ghost use Rattle.scr_memory.specs.Spares.{HasTried, IsAllMarked, IsReady, IsSpareOf, are_sure, is_reset};
+ghost use Rattle.scr_memory.specs.Spares.{HasTried, IsAllMarked, IsReady, IsSpare, IsSpareOf, are_sure, is_reset};
 ghost use Rattle.scr_plan.specs.Checks.{BeginsAnew, IsAhead, IsSurePlan, MissesSome, ShowsMarked, ShowsMarkedIn, ShowsUnmarked};
 ghost use Rattle.scr_plan.specs.Code.Scenes.{IsScene, IsUpdate};
 ghost use Rattle.scr_plan.specs.Plans.{IsPlan, bound_of};
@@ -26,7 +27,7 @@ use crate::painting::Painter;
 use crate::plan_laws::plans_are_remembered;
 use crate::plans::{may_be, wants_changes_alone};
 use crate::scenes::{Scene, Update};
-use scr_cells::{Look, grid_laws};
+use scr_cells::{Look, Size, grid_laws};
 use scr_memory::{Memory, Spare, known_memories, memory_runs, spare_laws};
 use scr_term::{Op, Profile, Spot, profiles_have, run_laws};
 use scr_virtual::Virtual;
@@ -51,6 +52,309 @@ pub enum NotAPlan {
     /// The terminal does not show the picture after them, or its cursor is elsewhere.
     #[error("another picture")]
     Unlike,
+}
+
+/// Checks that operations are a plan (`IsPlan`), whoever made them: they are tried on the spare, and what they change there
+/// is compared with the picture. After `Ok` the spare is ahead by them, and `Memory::take` takes over what they lead to.
+/// After an error it shows again what is remembered.
+///
+/// Picture, memory and spare have the profile's size, the spare shows what is remembered, and a known row shows the picture
+/// except in the columns that may look different (`Virtual::altered`). `bound` is how many bytes they may have: those of
+/// the joined repaint or of `scratch`, or fewer. The time goes with the operations and with what changes.
+pub fn check(
+    profile: &Profile,
+    memory: &Memory,
+    wanted: &Virtual,
+    spare: &mut Spare,
+    ops: &[Op],
+    bound: usize,
+) -> Result<(), NotAPlan>
+    requires fits { Fits profile.now wanted.now.picture }
+    requires size { IsSizeOf wanted.now.picture memory.now }
+    requires same { IsUpToDate profile.now memory.now wanted.now }
+    requires ready { IsReady memory.now spare.old }
+    requires bound { bound ≤ length (all_bytes profile.now (bound_of profile.now memory.now wanted.now)) }
+    ensures plan { OnOk result (IsPlan profile.now memory.now wanted.now ops.now) }
+    ensures ahead { OnOk result (IsAhead profile.now memory.now ops.now spare.new) }
+    ensures back { OnErr result (IsReady memory.now spare.new) }
+{
+    let _profile = profile.size();
+    let _wanted = wanted.size();
+    let _memory = memory.size();
+    let scene = Scene {
+        painter: Painter::of(profile),
+        profile,
+        picture: wanted.picture(),
+    };
+    let update = Update {
+        scene,
+        memory,
+        wanted,
+        by: Looked::Altered,
+    };
+    update.check(spare, ops, bound)
+}
+
+impl Update<'_> {
+    // Checks that operations are a plan; leaves the spare ahead by them, or as it was.
+    pub(crate) fn check(&self, spare: &mut Spare, ops: &[Op], bound: usize) -> Result<(), NotAPlan>
+        requires update { IsUpdate self.now }
+        requires ready { IsReady self.now.memory.now spare.old }
+        requires bound { bound ≤ length (all_bytes self.now.scene.profile.now (bound_of self.now.scene.profile.now self.now.memory.now self.now.wanted.now)) }
+        ensures plan { OnOk result (IsPlan self.now.scene.profile.now self.now.memory.now self.now.wanted.now ops.now) }
+        ensures ahead { OnOk result (IsAhead self.now.scene.profile.now self.now.memory.now ops.now spare.new) }
+        ensures back { OnErr result (IsReady self.now.memory.now spare.new) }
+    {
+        let checked = self.try_on(spare, ops, bound);
+        if checked.is_err() {
+            spare.back(self.memory);
+        }
+        checked
+    }
+
+    // Tries operations on the spare, and tells whether they are a plan.
+    fn try_on(&self, spare: &mut Spare, ops: &[Op], bound: usize) -> Result<(), NotAPlan>
+        requires update { IsUpdate self.now }
+        requires ready { IsReady self.now.memory.now spare.old }
+        requires bound { bound ≤ length (all_bytes self.now.scene.profile.now (bound_of self.now.scene.profile.now self.now.memory.now self.now.wanted.now)) }
+        ensures plan { OnOk result (IsPlan self.now.scene.profile.now self.now.memory.now self.now.wanted.now ops.now) }
+        ensures ahead { OnOk result (IsAhead self.now.scene.profile.now self.now.memory.now ops.now spare.new) }
+        ensures of { IsSpareOf self.now.memory.now spare.new }
+    {
+        spare_laws();
+        let _profile = self.scene.profile.size();
+        let _memory = self.memory.size();
+        let size = self.wanted.size();
+        if !may_be(self.scene.profile, self.memory) {
+            return Err(NotAPlan::Unsure);
+        }
+        if !is_few(ops, size) {
+            return Err(NotAPlan::Long);
+        }
+        spare.begin(self.memory);
+        if wants_changes_alone(self.memory, self.wanted) {
+            return self.check_changes(spare, ops, bound);
+        }
+        if begins_anew(self.scene.profile, ops) {
+            return self.check_anew(spare, ops, bound);
+        }
+        if self.wanted.repaint() {
+            return Err(NotAPlan::Unsure);
+        }
+        self.check_surely(spare, ops, bound)
+    }
+
+    // Where all is known: the operations are executed, and the columns that are looked at are compared, and what the
+    // operations changed.
+    fn check_changes(&self, spare: &mut Spare, ops: &[Op], bound: usize) -> Result<(), NotAPlan>
+        requires update { IsUpdate self.now }
+        requires known { is_known self.now.memory.now ≡ true }
+        requires calm { self.now.wanted.now.repaint ≡ false }
+        requires pen { IsShownPen (abilities self.now.scene.profile.now) self.now.memory.now.state.pen }
+        requires few { length ops.now ≤ self.now.wanted.now.picture.rows * self.now.wanted.now.picture.columns * 12 + 4 }
+        requires begun { spare.old.memory ≡ self.now.memory.now }
+        requires none { AreNone spare.old.marks }
+        requires bound { bound ≤ length (all_bytes self.now.scene.profile.now (bound_of self.now.scene.profile.now self.now.memory.now self.now.wanted.now)) }
+        ensures plan { OnOk result (IsPlan self.now.scene.profile.now self.now.memory.now self.now.wanted.now ops.now) }
+        ensures ahead { OnOk result (IsAhead self.now.scene.profile.now self.now.memory.now ops.now spare.new) }
+        ensures of { IsSpareOf self.now.memory.now spare.new }
+    {
+        run_laws();
+        known_memories();
+        memory_runs();
+        grid_laws::<Look>();
+        let _profile = self.scene.profile.size();
+        let _memory = self.memory.size();
+        let _wanted = self.wanted.size();
+        self.mark_changes(spare);
+        let _marked = spare.memory().size();
+        run(self.scene.profile, spare, ops)?;
+        let _spare = spare.memory().size();
+        if !is_within(self.scene.profile, ops, bound) {
+            return Err(NotAPlan::Dear);
+        }
+        if !self.scene.is_shown_by(spare) {
+            return Err(NotAPlan::Unlike);
+        }
+        if !self.scene.is_placed_by(spare.memory()) {
+            return Err(NotAPlan::Unlike);
+        }
+        Ok(())
+    }
+}
+
+impl Update<'_> {
+    // Where the operations clear the screen first: they are executed, and everything is compared.
+    fn check_anew(&self, spare: &mut Spare, ops: &[Op], bound: usize) -> Result<(), NotAPlan>
+        requires update { IsUpdate self.now }
+        requires due { (is_known self.now.memory.now && not self.now.wanted.now.repaint) ≡ false }
+        requires pen { IsShownPen (abilities self.now.scene.profile.now) self.now.memory.now.state.pen }
+        requires begins { BeginsAnew self.now.scene.profile.now ops.now }
+        requires few { length ops.now ≤ self.now.wanted.now.picture.rows * self.now.wanted.now.picture.columns * 12 + 4 }
+        requires begun { spare.old.memory ≡ self.now.memory.now }
+        requires bound { bound ≤ length (all_bytes self.now.scene.profile.now (bound_of self.now.scene.profile.now self.now.memory.now self.now.wanted.now)) }
+        ensures plan { OnOk result (IsPlan self.now.scene.profile.now self.now.memory.now self.now.wanted.now ops.now) }
+        ensures ahead { OnOk result (IsAhead self.now.scene.profile.now self.now.memory.now ops.now spare.new) }
+        ensures of { IsSpareOf self.now.memory.now spare.new }
+    {
+        run_laws();
+        profiles_have();
+        memory_runs();
+        plans_are_remembered();
+        grid_laws::<Look>();
+        let _profile = self.scene.profile.size();
+        let _memory = self.memory.size();
+        let _wanted = self.wanted.size();
+        spare.mark_all();
+        let _marked = spare.memory().size();
+        run(self.scene.profile, spare, ops)?;
+        let _spare = spare.memory().size();
+        if !is_within(self.scene.profile, ops, bound) {
+            return Err(NotAPlan::Dear);
+        }
+        if !self.scene.is_shown_by(spare) {
+            return Err(NotAPlan::Unlike);
+        }
+        if !self.scene.is_placed_by(spare.memory()) {
+            return Err(NotAPlan::Unlike);
+        }
+        Ok(())
+    }
+
+    // Where not all is known: the operations are followed from what is known, and everything is compared.
+    fn check_surely(&self, spare: &mut Spare, ops: &[Op], bound: usize) -> Result<(), NotAPlan>
+        requires update { IsUpdate self.now }
+        requires calm { self.now.wanted.now.repaint ≡ false }
+        requires pen { IsShownPen (abilities self.now.scene.profile.now) self.now.memory.now.state.pen }
+        requires few { length ops.now ≤ self.now.wanted.now.picture.rows * self.now.wanted.now.picture.columns * 12 + 4 }
+        requires begun { spare.old.memory ≡ self.now.memory.now }
+        requires bound { bound ≤ length (all_bytes self.now.scene.profile.now (bound_of self.now.scene.profile.now self.now.memory.now self.now.wanted.now)) }
+        ensures plan { OnOk result (IsPlan self.now.scene.profile.now self.now.memory.now self.now.wanted.now ops.now) }
+        ensures ahead { OnOk result (IsAhead self.now.scene.profile.now self.now.memory.now ops.now spare.new) }
+        ensures of { IsSpareOf self.now.memory.now spare.new }
+    {
+        run_laws();
+        spare_laws();
+        known_memories();
+        memory_runs();
+        grid_laws::<Look>();
+        let _profile = self.scene.profile.size();
+        let _memory = self.memory.size();
+        let _wanted = self.wanted.size();
+        follow(self.scene.profile, spare, ops)?;
+        let _spare = spare.memory().size();
+        if !spare.memory().known() {
+            return Err(NotAPlan::Unsure);
+        }
+        if !is_within(self.scene.profile, ops, bound) {
+            return Err(NotAPlan::Dear);
+        }
+        if !self.scene.is_shown_by(spare) {
+            return Err(NotAPlan::Unlike);
+        }
+        if !self.scene.is_placed_by(spare.memory()) {
+            return Err(NotAPlan::Unlike);
+        }
+        Ok(())
+    }
+}
+
+// Follows operations on the spare, from what is known.
+fn follow(profile: &Profile, spare: &mut Spare, ops: &[Op]) -> Result<(), NotAPlan>
+    requires rows { spare.old.memory.rows ≡ profile.now.rows }
+    requires columns { spare.old.memory.columns ≡ profile.now.columns }
+    ensures sure { OnOk result (are_sure profile.now ops.now spare.old.memory ≡ true) }
+    ensures unsure { OnErr result (are_sure profile.now ops.now spare.old.memory ≡ false) }
+    ensures followed { OnOk result (spare.new.memory ≡ all_followed profile.now ops.now spare.old.memory) }
+    ensures rows { spare.new.memory.rows ≡ spare.old.memory.rows }
+    ensures columns { spare.new.memory.columns ≡ spare.old.memory.columns }
+    ensures marked { IsAllMarked spare.new }
+    ensures sizes { IsSpare spare.new }
+{
+    let followed = spare.follow(profile, ops);
+    let _spare = spare.memory();
+    match followed {
+        Ok(()) => Ok(()),
+        Err(_) => Err(NotAPlan::Unsure),
+    }
+}
+
+// Executes operations on the spare.
+fn run(profile: &Profile, spare: &mut Spare, ops: &[Op]) -> Result<(), NotAPlan>
+    requires rows { spare.old.memory.rows ≡ profile.now.rows }
+    requires columns { spare.old.memory.columns ≡ profile.now.columns }
+    ensures run { OnOk result (runs profile.now spare.old.memory.state ops.now ≡ Some spare.new.memory.state) }
+    ensures undefined { OnErr result (is_some (runs profile.now spare.old.memory.state ops.now) ≡ false) }
+    ensures tried { HasTried spare.old spare.new }
+{
+    match spare.run(profile, ops) {
+        Ok(()) => Ok(()),
+        Err(_) => Err(NotAPlan::Undefined),
+    }
+}
+
+// Whether there are no more operations than a plan has.
+fn is_few(ops: &[Op], size: Size) -> bool
+    ensures yes { result ≡ true → length ops.now ≤ size.rows * size.columns * 12 + 4 }
+    ensures no { result ≡ false → length ops.now ≤ size.rows * size.columns * 12 + 4 → ⊥ }
+{
+    ops.len() <= size.rows as usize * size.columns as usize * 12 + 4
+}
+
+// Whether operations have no more bytes than a bound, where the terminal has them all.
+fn is_within(profile: &Profile, ops: &[Op], bound: usize) -> bool
+    ensures { result ≡ true → All (λ op. has profile.now op ≡ true) ops.now → length (all_bytes profile.now ops.now) ≤ bound }
+{
+    bound < usize::MAX && price_of(profile, ops) <= bound
+}
+
+// Whether operations begin by turning attributes off, where the terminal can, and clearing the screen.
+fn begins_anew(profile: &Profile, ops: &[Op]) -> bool
+    ensures yes { result ≡ true → BeginsAnew profile.now ops.now }
+{
+    if profile.can_reset() {
+        return begins_with_both(profile, ops);
+    }
+    begins_with_clear(profile, ops)
+}
+
+// Whether operations begin with Reset and Clear.
+fn begins_with_both(profile: &Profile, ops: &[Op]) -> bool
+    requires { is_there profile.now Sgr0 ≡ true }
+    ensures { result ≡ true → BeginsAnew profile.now ops.now }
+{
+    if ops.len() < 2 {
+        return false;
+    }
+    if !is_reset(ops[0]) {
+        return false;
+    }
+    is_clear(ops[1])
+}
+
+// Whether operations begin with Clear.
+fn begins_with_clear(profile: &Profile, ops: &[Op]) -> bool
+    requires { is_there profile.now Sgr0 ≡ false }
+    ensures { result ≡ true → BeginsAnew profile.now ops.now }
+{
+    if ops.is_empty() {
+        return false;
+    }
+    is_clear(ops[0])
+}
+
+// Whether an operation clears the screen.
+fn is_clear(op: Op) -> bool
+    ensures { result ≡ clears op }
+{
+    matches!(op, Op::Clear)
+}
+
+// Whether an operation turns attributes off, in default colours.
+fn is_reset(op: Op) -> bool
+    ensures { result ≡ is_reset op }
+{
+    matches!(op, Op::Reset)
 }
 
 impl Update<'_> {

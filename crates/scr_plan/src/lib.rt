@@ -31,7 +31,7 @@ mod unknown_rows;
 mod visiting;
 mod wiping;
 
-pub use checking::NotAPlan;
+pub use checking::{NotAPlan, check};
 pub use joined_changes::joined;
 pub use painting::scratch;
 pub use plain_repaint::plain;
