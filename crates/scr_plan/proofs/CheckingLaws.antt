@@ -1,5 +1,5 @@
 -- A list of operations that was tried is a plan, where all is known; and what is refused is none.
-use Rattle.std.proofs.Common.{◌≡◌, ℕ, zero, suc, ◌+◌, ◌*◌, ◌-◌, ◌<◌, ◌≤◌, ◌&&◌, ◌||◌, not, Bool, true, false, refl, sym, ◌∙◌, ap, arith, subst, List, [], ◌∷◌, ◌++◌, drop, take, length, get_or, length-drop, Option, Some, None, IfSome, OnErr, Result, Ok, Err, option_and_then, if◌then◌else◌}
+use Rattle.std.proofs.Common.{◌≡◌, ℕ, zero, suc, ◌+◌, ◌*◌, ◌-◌, ◌<◌, ◌≤◌, ◌⊎◌, inl, inr, ◌&&◌, ◌||◌, not, Bool, true, false, refl, sym, ◌∙◌, ap, arith, subst, List, [], ◌∷◌, ◌++◌, drop, take, length, get_or, length-drop, Option, Some, None, IfSome, OnErr, Result, Ok, Err, option_and_then, if◌then◌else◌}
 use Rattle.std.proofs.Math.Seq.{take-add}
 use Rattle.std.proofs.lemmas.List.{take_all}
 use Rattle.std.specs.Option.{is_some, unwrap_or}
@@ -22,7 +22,7 @@ use Rattle.scr_plan.proofs.ScratchLaws.{grid_is_painted}
 use Rattle.scr_plan.proofs.ShortPlanLaws.{not_nothing}
 use Rattle.scr_memory.specs.Spares.{HasTried, IsAllMarked, IsSpareOf, SpareView}
 use Rattle.scr_terminal.specs.Marks.{is_marked}
-use Rattle.scr_plan.specs.Checks.{ShowsMarked, ShowsUnmarked}
+use Rattle.scr_plan.specs.Checks.{IsUnlike, IsWholeBound, MissesSome, ShowsMarked, ShowsUnmarked}
 use Rattle.scr_plan.specs.Plans.{IsPlan, bound_of}
 use Rattle.scr_plan.specs.Scratch.{Fits, RunsToShow, look_at}
 
@@ -120,3 +120,26 @@ marked_is_of memory spare high wide rows columns all = record {
   where
     never : {P : Type 0} → true ≡ false → P
     never e = (cc)
+
+-- ---- what is refused
+
+-- what a plan leads to from the remembered state is what was tried
+led : (profile : ProfileView) (virtual : VirtualView) (memory : MemoryView) (may : MayBe (abilities profile) memory) (ops : List Op) (new : TerminalState) → runs profile memory.state ops ≡ Some new → (plan : IsPlan profile memory virtual ops)
+    → (plan_says profile virtual memory may ops plan).new ≡ new
+led profile virtual memory may ops new run plan = same (sym (plan_says profile virtual memory may ops plan).run ∙ run)
+  where
+    same : {a b : TerminalState} → Some a ≡ Some b → a ≡ b
+    same e = (cc)
+
+pub unlike_is_no_plan : RunLaws → (profile : ProfileView) (virtual : VirtualView) → IsPicture virtual.picture → (memory : MemoryView) → MayBe (abilities profile) memory → (bound : ℕ) → IsWholeBound profile memory virtual bound → (ops : List Op) (spare : SpareView)
+    → runs profile memory.state ops ≡ Some spare.memory.state → IsUnlike profile virtual.picture bound ops spare → IsPlan profile memory virtual ops → ⊥
+unlike_is_no_plan laws profile virtual k memory may bound whole ops spare run (inl misses) plan =
+    unlike_is_none profile virtual k memory may ops spare.memory.state run misses.0 misses.1 misses.2 misses.3 misses.4 plan
+unlike_is_no_plan laws profile virtual k memory may bound whole ops spare run (inr (inl elsewhere)) plan =
+    elsewhere (subst (λ (state : TerminalState). IfSome virtual.picture.wish (λ wish. state.spot ≡ At wish.0 wish.1)) (led profile virtual memory may ops spare.memory.state run plan) (plan_says profile virtual memory may ops plan).shows.spot)
+unlike_is_no_plan laws profile virtual k memory may bound whole ops spare run (inr (inr dear)) plan =
+    dear whole.less (laws.had profile memory.state spare.memory.state ops run) (omega (arith, plan.cheap, whole.all))
+
+pub on_err : {A E : Type 0} {P : Type 0} (result : Result A E) → P → OnErr result P
+on_err (Ok value) p = tt
+on_err (Err error) p = p

@@ -1,16 +1,18 @@
 -- What a check of operations lets through before they are sent. curs_refresh(3X), doupdate().
-use Rattle.std.specs.Prelude.{ℕ, ◌≡◌, ◌<◌, ◌⊎◌, ◌++◌, Bool, true, false, List, [], ◌∷◌}
+use Rattle.std.specs.Prelude.{ℕ, ◌≡◌, ◌<◌, ◌≤◌, ◌-◌, ◌^◌, ◌⊎◌, ◌++◌, true, false, List, [], ◌∷◌, All, IfSome, length}
 use Rattle.scr_cells.specs.Grids.{grid_at}
 use Rattle.scr_cells.specs.LookViews.{blank}
 use Rattle.scr_cells.specs.PictureViews.{PictureView}
 use Rattle.scr_term.specs.declared.operations.operation.Op.{Op}
 use Rattle.scr_term.specs.declared.operations.operation.Op.TheVariants.{Clear}
-use Rattle.scr_term.specs.Operations.Profiles.{ProfileView}
+use Rattle.scr_term.specs.declared.operations.operation.Spot.TheVariants.{At}
+use Rattle.scr_term.specs.Operations.Profiles.{ProfileView, abilities}
+use Rattle.scr_term.specs.Operations.Texts.{all_bytes, has}
 use Rattle.scr_terminal.specs.Marks.{MarksView, is_marked}
-use Rattle.scr_memory.specs.Memories.{MemoryView, all_followed, is_known}
+use Rattle.scr_memory.specs.Memories.{MayBe, MemoryView, all_followed, is_known}
 use Rattle.scr_memory.specs.Spares.{IsSpareOf, SpareView, are_sure}
 use Rattle.scr_virtual.specs.VirtualViews.{VirtualView}
-use Rattle.scr_plan.specs.Plans.{IsPlan}
+use Rattle.scr_plan.specs.Plans.{IsPlan, bound_of}
 use Rattle.scr_plan.specs.Scratch.{look_at, resets}
 
 -- The operations turn attributes off, where the terminal can, clear the screen, and go on.
@@ -23,6 +25,17 @@ pub record IsSurePlan (profile : ProfileView) (memory : MemoryView) (virtual : V
   pub plan : IsPlan profile memory virtual ops
   pub anew : virtual.repaint ≡ true → BeginsAnew profile ops
   pub sure : virtual.repaint ≡ false → is_known memory ≡ false → BeginsAnew profile ops ⊎ (are_sure profile ops memory ≡ true)
+
+-- The bound is that of a plan, and below the greatest number.
+pub record IsWholeBound (profile : ProfileView) (memory : MemoryView) (virtual : VirtualView) (bound : ℕ) : Type 0 where
+  pub all : bound ≡ length (all_bytes profile (bound_of profile memory virtual))
+  pub less : bound < 2 ^ 64 - 1
+
+-- The operations are no plan that can be seen to be one, where the remembered state is possible and the bound is the
+-- whole one.
+abbrev pub IsNoSurePlan : ProfileView → MemoryView → VirtualView → ℕ → List Op → Type 0
+IsNoSurePlan profile memory virtual bound ops =
+    MayBe (abilities profile) memory → IsWholeBound profile memory virtual bound → IsSurePlan profile memory virtual ops → ⊥
 
 -- The spare is ahead of the memory by these operations: it shows what is remembered after them, and all is known then.
 pub record IsAhead (profile : ProfileView) (memory : MemoryView) (ops : List Op) (spare : SpareView) : Type 0 where
@@ -46,3 +59,17 @@ ShowsMarked profile spare picture = (r : ℕ) → r < picture.rows → ShowsMark
 abbrev pub MissesSome : ProfileView → SpareView → PictureView → Type 0
 MissesSome profile spare picture =
     (r : ℕ) × (c : ℕ) × (r < picture.rows) × (c < picture.columns) × (grid_at blank spare.memory.state.grid r c ≡ look_at profile picture (r, c) → ⊥)
+
+-- What was tried shows the picture in marked places, with the cursor where it is wanted, and the operations have no more
+-- bytes than a bound, if the terminal has them all.
+pub record IsAlike (profile : ProfileView) (picture : PictureView) (bound : ℕ) (ops : List Op) (spare : SpareView) : Type 0 where
+  pub within : All (λ op. has profile op ≡ true) ops → length (all_bytes profile ops) ≤ bound
+  pub shown : ShowsMarked profile spare picture
+  pub placed : IfSome picture.wish (λ wish. spare.memory.state.spot ≡ At wish.0 wish.1)
+
+-- It misses a place, the cursor is elsewhere, or there are more bytes.
+abbrev pub IsUnlike : ProfileView → PictureView → ℕ → List Op → SpareView → Type 0
+IsUnlike profile picture bound ops spare =
+    MissesSome profile spare picture
+    ⊎ (IfSome picture.wish (λ wish. spare.memory.state.spot ≡ At wish.0 wish.1) → ⊥)
+    ⊎ (bound < 2 ^ 64 - 1 → All (λ op. has profile op ≡ true) ops → length (all_bytes profile ops) ≤ bound → ⊥)

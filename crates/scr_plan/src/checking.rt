@@ -1,6 +1,6 @@
 //! The check of a list of operations before it is sent: whether it is a plan, whoever made it. The definitions are in
 //! `specs/Checks.antt`.
-ghost use Rattle.std.specs.Prelude.{ℕ, ◌≡◌, ◌+◌, ◌*◌, ◌<◌, ◌≤◌, ◌==◌, ◌&&◌, not, All, IfSome, OnErr, OnOk, Some, false, length, true};
+ghost use Rattle.std.specs.Prelude.{ℕ, ◌≡◌, ◌+◌, ◌-◌, ◌*◌, ◌^◌, ◌<◌, ◌≤◌, ◌==◌, ◌&&◌, not, All, IfSome, OnErr, OnOk, Some, false, length, true};
 ghost use Rattle.std.specs.Option.{is_some};
 ghost use Rattle.scr_cells.specs.Grids.{grid_at};
 ghost use Rattle.scr_cells.specs.LookViews.{blank};
@@ -15,7 +15,7 @@ ghost use Rattle.scr_virtual.specs.Ranges.{in_range};
 ghost use Rattle.scr_plan.specs.Code.Planning.{range_by};
 ghost use Rattle.scr_memory.specs.Memories.{all_followed, clears, is_known, is_placed};
 ghost use Rattle.scr_memory.specs.Spares.{HasTried, IsAllMarked, IsReady, IsSpare, IsSpareOf, are_sure, is_reset};
-ghost use Rattle.scr_plan.specs.Checks.{BeginsAnew, IsAhead, IsSurePlan, MissesSome, ShowsMarked, ShowsMarkedIn, ShowsUnmarked};
+ghost use Rattle.scr_plan.specs.Checks.{BeginsAnew, IsAhead, IsAlike, IsNoSurePlan, IsUnlike, MissesSome, ShowsMarked, ShowsMarkedIn, ShowsUnmarked};
 ghost use Rattle.scr_plan.specs.Code.Scenes.{IsScene, IsUpdate};
 ghost use Rattle.scr_plan.specs.Plans.{IsPlan, bound_of};
 ghost use Rattle.scr_plan.specs.Repaints.{IsSizeOf, IsUpToDate};
@@ -77,6 +77,7 @@ pub fn check(
     ensures plan { OnOk result (IsPlan profile.now memory.now wanted.now ops.now) }
     ensures ahead { OnOk result (IsAhead profile.now memory.now ops.now spare.new) }
     ensures back { OnErr result (IsReady memory.now spare.new) }
+    ensures exact { OnErr result (IsNoSurePlan profile.now memory.now wanted.now bound ops.now) }
 {
     let _profile = profile.size();
     let _wanted = wanted.size();
@@ -104,6 +105,7 @@ impl Update<'_> {
         ensures plan { OnOk result (IsPlan self.now.scene.profile.now self.now.memory.now self.now.wanted.now ops.now) }
         ensures ahead { OnOk result (IsAhead self.now.scene.profile.now self.now.memory.now ops.now spare.new) }
         ensures back { OnErr result (IsReady self.now.memory.now spare.new) }
+        ensures exact { OnErr result (IsNoSurePlan self.now.scene.profile.now self.now.memory.now self.now.wanted.now bound ops.now) }
     {
         let checked = self.try_on(spare, ops, bound);
         if checked.is_err() {
@@ -120,6 +122,7 @@ impl Update<'_> {
         ensures plan { OnOk result (IsPlan self.now.scene.profile.now self.now.memory.now self.now.wanted.now ops.now) }
         ensures ahead { OnOk result (IsAhead self.now.scene.profile.now self.now.memory.now ops.now spare.new) }
         ensures of { IsSpareOf self.now.memory.now spare.new }
+        ensures exact { OnErr result (IsNoSurePlan self.now.scene.profile.now self.now.memory.now self.now.wanted.now bound ops.now) }
     {
         spare_laws();
         let _profile = self.scene.profile.size();
@@ -158,6 +161,7 @@ impl Update<'_> {
         ensures plan { OnOk result (IsPlan self.now.scene.profile.now self.now.memory.now self.now.wanted.now ops.now) }
         ensures ahead { OnOk result (IsAhead self.now.scene.profile.now self.now.memory.now ops.now spare.new) }
         ensures of { IsSpareOf self.now.memory.now spare.new }
+        ensures exact { OnErr result (IsNoSurePlan self.now.scene.profile.now self.now.memory.now self.now.wanted.now bound ops.now) }
     {
         run_laws();
         known_memories();
@@ -170,15 +174,7 @@ impl Update<'_> {
         let _marked = spare.memory().size();
         run(self.scene.profile, spare, ops)?;
         let _spare = spare.memory().size();
-        if !is_within(self.scene.profile, ops, bound) {
-            return Err(NotAPlan::Dear);
-        }
-        if !self.scene.is_shown_by(spare) {
-            return Err(NotAPlan::Unlike);
-        }
-        if !self.scene.is_placed_by(spare.memory()) {
-            return Err(NotAPlan::Unlike);
-        }
+        self.scene.compare(spare, ops, bound)?;
         Ok(())
     }
 }
@@ -196,6 +192,7 @@ impl Update<'_> {
         ensures plan { OnOk result (IsPlan self.now.scene.profile.now self.now.memory.now self.now.wanted.now ops.now) }
         ensures ahead { OnOk result (IsAhead self.now.scene.profile.now self.now.memory.now ops.now spare.new) }
         ensures of { IsSpareOf self.now.memory.now spare.new }
+        ensures exact { OnErr result (IsNoSurePlan self.now.scene.profile.now self.now.memory.now self.now.wanted.now bound ops.now) }
     {
         run_laws();
         profiles_have();
@@ -209,15 +206,7 @@ impl Update<'_> {
         let _marked = spare.memory().size();
         run(self.scene.profile, spare, ops)?;
         let _spare = spare.memory().size();
-        if !is_within(self.scene.profile, ops, bound) {
-            return Err(NotAPlan::Dear);
-        }
-        if !self.scene.is_shown_by(spare) {
-            return Err(NotAPlan::Unlike);
-        }
-        if !self.scene.is_placed_by(spare.memory()) {
-            return Err(NotAPlan::Unlike);
-        }
+        self.scene.compare(spare, ops, bound)?;
         Ok(())
     }
 
@@ -225,6 +214,8 @@ impl Update<'_> {
     fn check_surely(&self, spare: &mut Spare, ops: &[Op], bound: usize) -> Result<(), NotAPlan>
         requires update { IsUpdate self.now }
         requires calm { self.now.wanted.now.repaint ≡ false }
+        requires unknown { is_known self.now.memory.now ≡ false }
+        requires other { BeginsAnew self.now.scene.profile.now ops.now → ⊥ }
         requires pen { IsShownPen (abilities self.now.scene.profile.now) self.now.memory.now.state.pen }
         requires few { length ops.now ≤ self.now.wanted.now.picture.rows * self.now.wanted.now.picture.columns * 12 + 4 }
         requires begun { spare.old.memory ≡ self.now.memory.now }
@@ -232,6 +223,7 @@ impl Update<'_> {
         ensures plan { OnOk result (IsPlan self.now.scene.profile.now self.now.memory.now self.now.wanted.now ops.now) }
         ensures ahead { OnOk result (IsAhead self.now.scene.profile.now self.now.memory.now ops.now spare.new) }
         ensures of { IsSpareOf self.now.memory.now spare.new }
+        ensures exact { OnErr result (IsNoSurePlan self.now.scene.profile.now self.now.memory.now self.now.wanted.now bound ops.now) }
     {
         run_laws();
         spare_laws();
@@ -246,15 +238,7 @@ impl Update<'_> {
         if !spare.memory().known() {
             return Err(NotAPlan::Unsure);
         }
-        if !is_within(self.scene.profile, ops, bound) {
-            return Err(NotAPlan::Dear);
-        }
-        if !self.scene.is_shown_by(spare) {
-            return Err(NotAPlan::Unlike);
-        }
-        if !self.scene.is_placed_by(spare.memory()) {
-            return Err(NotAPlan::Unlike);
-        }
+        self.scene.compare(spare, ops, bound)?;
         Ok(())
     }
 }
@@ -303,7 +287,8 @@ fn is_few(ops: &[Op], size: Size) -> bool
 
 // Whether operations have no more bytes than a bound, where the terminal has them all.
 fn is_within(profile: &Profile, ops: &[Op], bound: usize) -> bool
-    ensures { result ≡ true → All (λ op. has profile.now op ≡ true) ops.now → length (all_bytes profile.now ops.now) ≤ bound }
+    ensures yes { result ≡ true → All (λ op. has profile.now op ≡ true) ops.now → length (all_bytes profile.now ops.now) ≤ bound }
+    ensures no { result ≡ false → bound < 2 ^ 64 - 1 → All (λ op. has profile.now op ≡ true) ops.now → length (all_bytes profile.now ops.now) ≤ bound → ⊥ }
 {
     bound < usize::MAX && price_of(profile, ops) <= bound
 }
@@ -311,6 +296,7 @@ fn is_within(profile: &Profile, ops: &[Op], bound: usize) -> bool
 // Whether operations begin by turning attributes off, where the terminal can, and clearing the screen.
 fn begins_anew(profile: &Profile, ops: &[Op]) -> bool
     ensures yes { result ≡ true → BeginsAnew profile.now ops.now }
+    ensures no { result ≡ false → BeginsAnew profile.now ops.now → ⊥ }
 {
     if profile.can_reset() {
         return begins_with_both(profile, ops);
@@ -321,7 +307,8 @@ fn begins_anew(profile: &Profile, ops: &[Op]) -> bool
 // Whether operations begin with Reset and Clear.
 fn begins_with_both(profile: &Profile, ops: &[Op]) -> bool
     requires { is_there profile.now Sgr0 ≡ true }
-    ensures { result ≡ true → BeginsAnew profile.now ops.now }
+    ensures yes { result ≡ true → BeginsAnew profile.now ops.now }
+    ensures no { result ≡ false → BeginsAnew profile.now ops.now → ⊥ }
 {
     if ops.len() < 2 {
         return false;
@@ -335,7 +322,8 @@ fn begins_with_both(profile: &Profile, ops: &[Op]) -> bool
 // Whether operations begin with Clear.
 fn begins_with_clear(profile: &Profile, ops: &[Op]) -> bool
     requires { is_there profile.now Sgr0 ≡ false }
-    ensures { result ≡ true → BeginsAnew profile.now ops.now }
+    ensures yes { result ≡ true → BeginsAnew profile.now ops.now }
+    ensures no { result ≡ false → BeginsAnew profile.now ops.now → ⊥ }
 {
     if ops.is_empty() {
         return false;
@@ -396,6 +384,26 @@ impl Update<'_> {
 }
 
 impl Scene<'_> {
+    // Compares what was tried with the picture, in marked places and for the cursor, and the bytes with the bound.
+    fn compare(&self, spare: &Spare, ops: &[Op], bound: usize) -> Result<(), NotAPlan>
+        requires scene { IsScene self.now }
+        requires rows { spare.now.memory.rows ≡ self.now.picture.now.rows }
+        requires columns { spare.now.memory.columns ≡ self.now.picture.now.columns }
+        ensures alike { OnOk result (IsAlike self.now.profile.now self.now.picture.now bound ops.now spare.now) }
+        ensures unlike { OnErr result (IsUnlike self.now.profile.now self.now.picture.now bound ops.now spare.now) }
+    {
+        if !is_within(self.profile, ops, bound) {
+            return Err(NotAPlan::Dear);
+        }
+        if !self.is_shown_by(spare) {
+            return Err(NotAPlan::Unlike);
+        }
+        if !self.is_placed_by(spare) {
+            return Err(NotAPlan::Unlike);
+        }
+        Ok(())
+    }
+
     // Whether what was tried shows the picture in each marked place.
     fn is_shown_by(&self, spare: &Spare) -> bool
         requires scene { IsScene self.now }
@@ -446,12 +454,12 @@ impl Scene<'_> {
     }
 
     // Whether the cursor is where it is wanted.
-    fn is_placed_by(&self, tried: &Memory) -> bool
-        ensures yes { result ≡ true → IfSome self.now.picture.now.wish (λ wish. tried.now.state.spot ≡ At wish.0 wish.1) }
-        ensures no { result ≡ false → IfSome self.now.picture.now.wish (λ wish. tried.now.state.spot ≡ At wish.0 wish.1) → ⊥ }
+    fn is_placed_by(&self, spare: &Spare) -> bool
+        ensures yes { result ≡ true → IfSome self.now.picture.now.wish (λ wish. spare.now.memory.state.spot ≡ At wish.0 wish.1) }
+        ensures no { result ≡ false → IfSome self.now.picture.now.wish (λ wish. spare.now.memory.state.spot ≡ At wish.0 wish.1) → ⊥ }
     {
         match self.picture.wish() {
-            Some((row, column)) => tried.remembered_spot() == Spot::At(row, column),
+            Some((row, column)) => spare.memory().remembered_spot() == Spot::At(row, column),
             None => true,
         }
     }

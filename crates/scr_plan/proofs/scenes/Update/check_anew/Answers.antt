@@ -7,10 +7,10 @@ use Rattle.scr_term.specs.declared.operations.operation.Spot.TheVariants.{At}
 use Rattle.scr_term.specs.Operations.Profiles.{abilities}
 use Rattle.scr_term.specs.Operations.States.{TerminalState}
 use Rattle.scr_term.specs.Operations.Steps.{runs}
-use Rattle.scr_plan.proofs.CheckingLaws.{all_compared, marked_is_of, still_marked}
+use Rattle.scr_plan.proofs.CheckingLaws.{all_compared, marked_is_of, on_err, still_marked, unlike_is_no_plan}
 use Rattle.scr_plan.proofs.ShortPlanLaws.{state_of}
 use Rattle.scr_plan.proofs.SureLaws.{anew_plan}
-use Rattle.scr_plan.specs.Checks.{ShowsMarked}
+use Rattle.scr_plan.specs.Checks.{IsNoSurePlan, IsUnlike, ShowsMarked}
 use Rattle.scr_plan.specs.Plans.{IsPlan}
 use Rattle.scr_plan.proofs.scenes.Update.check_anew.Goals as goal
 
@@ -32,8 +32,7 @@ returns-clause-plan c =
     let whole : IsGrid tried.memory.rows tried.memory.columns new.grid = subst (λ (m : MemoryView). IsGrid m.rows m.columns m.state.grid) c.memory-2.ensures.memory c.size-spare.ensures.memory.state.whole in
     let grid : IsGrid profile.rows profile.columns new.grid = subst (λ rows. IsGrid rows profile.columns new.grid) rows (subst (λ columns. IsGrid tried.memory.rows columns new.grid) columns whole) in
     let all : IsAllMarked tried = still_marked marked tried c.memory.ensures.sizes.rows c.memory.ensures.sizes.columns c.mark_all.ensures.marked c.run.ensures.tried in
-    let shown : ShowsMarked profile tried virtual.picture = subst (ShowsMarked profile tried) update.picture (c.is_shown_by.ensures.yes c.if-not-is_shown_by.false) in
-    let placed = c.is_placed_by.ensures.yes c.if-not-is_placed_by.false in
+    let shown : ShowsMarked profile tried virtual.picture = subst (ShowsMarked profile tried) update.picture c.in_ok-compare.ensures.alike.shown in
     let may : MayBe (abilities profile) memory = record {
       state = state_of profile memory c.size-memory.ensures.memory (update.size.rows ∙ update.fits.rows) (update.size.columns ∙ update.fits.columns) c.requires.pen;
       high = update.size.known_rows ∙ update.fits.rows;
@@ -41,8 +40,8 @@ returns-clause-plan c =
     anew_plan c.run_laws.ensures c.profiles_have.ensures c.plans_are_remembered.ensures c.grid_laws.ensures profile c.size-profile.ensures.profile virtual c.size-wanted.ensures.screen.picture update.fits
     memory may c.requires.due c.args.ops.now new c.requires.begins run grid
     (all_compared profile virtual.picture tried picture_rows picture_columns all shown)
-    (subst (λ (picture : PictureView). IfSome picture.wish (λ wish. new.spot ≡ At wish.0 wish.1)) update.picture (subst (λ (m : MemoryView). IfSome c.args.self.now.scene.picture.now.wish (λ wish. m.state.spot ≡ At wish.0 wish.1)) c.memory-3.ensures.memory placed))
-    c.requires.few (let within = c.is_within.ensures c.if-not-is_within.false (c.run_laws.ensures.had profile memory.state new c.args.ops.now run) in omega (arith, within, c.requires.bound))
+    (subst (λ (picture : PictureView). IfSome picture.wish (λ wish. new.spot ≡ At wish.0 wish.1)) update.picture c.in_ok-compare.ensures.alike.placed)
+    c.requires.few (let within = c.in_ok-compare.ensures.alike.within (c.run_laws.ensures.had profile memory.state new c.args.ops.now run) in omega (arith, within, c.requires.bound))
 
 pub returns-clause-ahead : goal.returns-clause-ahead
 returns-clause-ahead c =
@@ -65,3 +64,14 @@ returns-clause-ahead c =
       state = c.memory_runs.ensures.state profile memory tried.memory.state c.args.ops.now run;
       known = (returns-clause-plan c).known may;
     }
+
+pub returns-in_err-compare-clause-exact : goal.returns-in_err-compare-clause-exact
+returns-in_err-compare-clause-exact c =
+    let profile = c.args.self.now.scene.profile.now in
+    let memory = c.args.self.now.memory.now in
+    let virtual = c.args.self.now.wanted.now in
+    let is : c.mark_all.new.self.memory ≡ memory = c.mark_all.ensures.memory ∙ c.requires.begun in
+    let run : runs profile memory.state c.args.ops.now ≡ Some c.run.new.spare.memory.state = ap (λ (m : MemoryView). runs profile m.state c.args.ops.now) (sym is) ∙ c.in_ok-run.ensures.run in
+    let other : IsUnlike profile virtual.picture c.args.bound c.args.ops.now c.run.new.spare = subst (λ (picture : PictureView). IsUnlike profile picture c.args.bound c.args.ops.now c.run.new.spare) c.requires.update.picture c.in_err-compare.ensures.unlike in
+    let none : IsNoSurePlan profile memory virtual c.args.bound c.args.ops.now = λ may whole sure. unlike_is_no_plan c.run_laws.ensures profile virtual c.size-wanted.ensures.screen.picture memory may c.args.bound whole c.args.ops.now c.run.new.spare run other sure.plan in
+    on_err _ none
