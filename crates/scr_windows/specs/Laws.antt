@@ -18,7 +18,8 @@ pub record IsKeptAt (old new : DeskView) (k m : ℕ) : Type 0 where
   pub window : window_at new m ≡ on_surface (window_at new m).frame.surface (window_at old k)
   pub cells : (r c : ℕ) → at new m r c ≡ at old k r c
 
--- delwin(): every other window stays as it is, with all its cells, and two of them share a surface if they did before.
+-- delwin(): every other window stays as it is, with all its cells, and two of them share a surface exactly if they did
+-- before.
 pub record DeletingKeepsOthers : Type 0 where
   pub others : (desk : DeskView) (number i other k : ℕ) → IsDesk desk → index_of desk number ≡ Ok i → has_children number desk.windows ≡ false → other ≢ number → index_of desk other ≡ Ok k
       → (m : ℕ) × (index_of (deleted desk i) other ≡ Ok m) × IsKeptAt desk (deleted desk i) k m
