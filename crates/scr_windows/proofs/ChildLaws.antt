@@ -2,7 +2,7 @@
 use Rattle.std.proofs.Common.{◌≡◌, ◌⊎◌, inl, inr, ℕ, ◌+◌, ◌-◌, ◌<◌, ◌≤◌, sym, subst, ◌∙◌, ap, refl, arith, List, [], ◌∷◌, ◌++◌, length, map, get_or, Option, None, Some, Bool, true, false, cond, leb, ◌==◌, ◌&&◌}
 use Rattle.scr_cells.specs.CellViews.{blank_cell}
 use Rattle.scr_cells.specs.PictureViews.{IsSize}
-use Rattle.std.specs.Prelude.{MatchOption}
+use Rattle.std.specs.Prelude.{All, MatchOption}
 use Rattle.std.specs.Option.{is_some}
 use Rattle.std.proofs.lemmas.List.Elements.{All-push}
 use Rattle.std.proofs.lemmas.List.{get_or-map, map-append, length-append}
@@ -13,11 +13,9 @@ use Rattle.scr_windows.specs.declared.surfaces.areas.Area.{Area}
 use Rattle.scr_windows.specs.declared.frames.Frame.{Frame}
 use Rattle.scr_windows.specs.declared.frames.WindowState.{WindowState}
 use Rattle.scr_windows.specs.Surfaces.SurfaceViews.{SurfaceView, IsSurface, blank_surface}
-use Rattle.scr_windows.specs.DeskViews.{no_attributes, WindowView, DeskView, IsWindow, IsPlaced, IsChild, IsInsideOnScreen, AreFrames, IsDesk, IsThere, window_at, HasOwn, no_window, no_frame, fresh_window}
-use Rattle.scr_windows.specs.declared.sheets.Sheet.{Sheet}
-use Rattle.scr_windows.specs.Sheets.{size_on}
+use Rattle.scr_windows.specs.DeskViews.{no_attributes, WindowView, DeskView, HaveOwn, IsWindow, IsPlaced, IsChild, IsInsideOnScreen, AreFrames, IsDesk, IsThere, window_at, no_window, no_frame, fresh_window, size_on}
 use Rattle.std.proofs.lemmas.List.Quantifiers.{all_pairs_push}
-use Rattle.scr_windows.proofs.SheetLaws.{has_sheet, size_last, size_more}
+use Rattle.scr_windows.proofs.SizeLaws.{is_surface_there, size_last, size_more}
 use Rattle.scr_windows.specs.Code.NewFrames.{IsRootPlace, IsChildPlace}
 use Rattle.scr_windows.specs.Calls.Making.{with_root, root_frame, screen_area, part_of}
 use Rattle.scr_windows.specs.Calls.Subwindows.{child_frame, with_child}
@@ -60,13 +58,13 @@ last_ascends frames last h l i j less in_all =
     ]
 
 frames_more : (rows columns : ℕ) (sizes : ℕ → ℕ × ℕ) (made : ℕ) (frames : List Frame) (last : Frame) → AreFrames rows columns sizes made frames → length frames < 1000
-    → IsPlaced rows columns sizes last → HasOwn last → last.number ≡ made + 1 → HasParent frames last → AreFrames rows columns sizes (made + 1) (frames ++ last ∷ [])
+    → IsPlaced rows columns sizes last → All (λ (f : Frame). HaveOwn f last) frames → last.number ≡ made + 1 → HasParent frames last → AreFrames rows columns sizes (made + 1) (frames ++ last ∷ [])
 frames_more rows columns sizes made frames last h few p own number parent = record {
   few = omega (arith, length-append frames (last ∷ []));
   placed = All-push (IsPlaced rows columns sizes) frames last h.placed p;
   numbers = All-push (λ (frame : Frame). frame.number ≤ made + 1) frames last (λ k d l. omega (arith, h.numbers k d l)) (omega (arith, number));
   ascending = last_ascends frames last h.ascending (λ k l. omega (arith, h.numbers k no_frame l, number));
-  roots = All-push HasOwn frames last h.roots own;
+  own = all_pairs_push HaveOwn frames last h.own own;
   parents = All-push (HasParent (frames ++ last ∷ [])) frames last (λ k d l. more_parents frames last (get_or frames k d) (h.parents k d l)) (more_parents frames last last parent);
 }
 
@@ -87,13 +85,11 @@ child_is_desk d i area origin h l few made inside =
       size = h.size;
       made = omega arith;
       surfaces = h.surfaces;
-      sheets = h.sheets;
-      given = λ k e b. omega (arith, h.given k e b);
       windows = All-push IsWindow d.windows _ h.windows (fresh_is_window frame (window_at d i).state.attrs (window_at d i).state.pair (window_at d i).state.background (h.windows i no_window l).state.pair inside.some_rows inside.some_columns);
       frames = (let P : List Frame → Type 0 = λ fs. AreFrames d.rows d.columns (size_on d.surfaces) (d.made + 1) fs in
           subst P (sym (map-append frame_of d.windows _)) (frames_more d.rows d.columns (size_on d.surfaces) d.made frames frame h.frames (omega (arith, many))
           (record { some_rows = inside.some_rows; some_columns = inside.some_columns; below = omega (arith, on.below, inside.below); right = omega (arith, on.right, inside.right); origin = inside.on_screen })
-          tt refl
+          (λ k d l none_f none. absurd (let z : ⊥ = (cc) in z)) refl
           (i, omega (arith, many), ap (λ (f : Frame). f.number) at, subst C (sym at) child)));
     }
 
@@ -183,10 +179,14 @@ divided_place d i frame part rows columns row column frame_is pad part_is =
       in_parent = (let Q : Option (ℕ × ℕ) → Type 0 = λ o. IsInsideOnScreen None part o (window_at d i).frame.area in subst Q (sym (sym (ap (λ (f : Frame). f.origin) frame_is) ∙ pad)) tt);
     }
 
+-- a window that is placed is on a surface that is there
+before_last : (rows columns : ℕ) (surfaces : List SurfaceView) (frame : Frame) → IsPlaced rows columns (size_on surfaces) frame → frame.surface < length surfaces
+before_last rows columns surfaces frame p = is_surface_there surfaces frame.surface (omega (arith, p.some_rows, p.below))
+
 -- a surface more: each window stays on its own
-placed_still : (rows columns : ℕ) (sheets : List Sheet) (last : Sheet) (frame : Frame) → IsPlaced rows columns (size_on sheets) frame → IsPlaced rows columns (size_on (sheets ++ last ∷ [])) frame
-placed_still rows columns sheets last frame p =
-    let same : size_on (sheets ++ last ∷ []) frame.surface ≡ size_on sheets frame.surface = size_more sheets last frame.surface (has_sheet sheets frame.surface (omega (arith, p.some_rows, p.below))) in
+placed_still : (rows columns : ℕ) (surfaces : List SurfaceView) (last : SurfaceView) (frame : Frame) → IsPlaced rows columns (size_on surfaces) frame → IsPlaced rows columns (size_on (surfaces ++ last ∷ [])) frame
+placed_still rows columns surfaces last frame p =
+    let same : size_on (surfaces ++ last ∷ []) frame.surface ≡ size_on surfaces frame.surface = size_more surfaces last frame.surface (before_last rows columns surfaces frame p) in
     record {
       some_rows = p.some_rows;
       some_columns = p.some_columns;
@@ -195,35 +195,29 @@ placed_still rows columns sheets last frame p =
       origin = p.origin;
     }
 
--- the surface that is made with the next window
-abbrev next_sheet : DeskView → ℕ → ℕ → Sheet
-next_sheet d rows columns = record { number = d.made + 1; surface = blank_surface rows columns }
-
 pub root_is_desk : SurfaceLaws → (d : DeskView) (rows columns : ℕ) (origin : Option (ℕ × ℕ)) → IsDesk d → length d.windows < 1000 → d.made < 4294967295 → IsRootPlace d rows columns origin → IsDesk (with_root d rows columns origin)
 root_is_desk laws d rows columns origin h few made on =
     let frame : Frame = root_frame d rows columns origin in
     let frames : List Frame = map frame_of d.windows in
     let many : length frames ≡ length d.windows = length_map frame_of d.windows in
-    let next : Sheet = next_sheet d rows columns in
-    let sheets : List Sheet = d.surfaces ++ next ∷ [] in
-    let last : size_on sheets (d.made + 1) ≡ (rows, columns) = size_last d.surfaces next (λ k e b. omega (arith, h.given k e b)) in
-    let still : AreFrames d.rows d.columns (size_on sheets) d.made frames = record {
+    let next : SurfaceView = blank_surface rows columns in
+    let surfaces : List SurfaceView = d.surfaces ++ next ∷ [] in
+    let last : size_on surfaces (length d.surfaces) ≡ (rows, columns) = size_last d.surfaces next in
+    let still : AreFrames d.rows d.columns (size_on surfaces) d.made frames = record {
       few = h.frames.few;
       placed = λ k e l. placed_still d.rows d.columns d.surfaces next (get_or frames k e) (h.frames.placed k e l);
       numbers = h.frames.numbers;
       ascending = h.frames.ascending;
-      roots = h.frames.roots;
+      own = h.frames.own;
       parents = h.frames.parents;
     } in
     record {
       size = h.size;
       made = omega arith;
-      surfaces = All-push (λ (sheet : Sheet). IsSurface sheet.surface) d.surfaces next h.surfaces (laws.blank rows columns on.size);
-      sheets = all_pairs_push (λ (s : Sheet) (t : Sheet). s.number < t.number) d.surfaces next h.sheets (λ k e b. omega (arith, h.given k e b));
-      given = All-push (λ (sheet : Sheet). sheet.number ≤ d.made + 1) d.surfaces next (λ k e b. omega (arith, h.given k e b)) (omega arith);
+      surfaces = All-push IsSurface d.surfaces next h.surfaces (laws.blank rows columns on.size);
       windows = All-push IsWindow d.windows _ h.windows (fresh_is_window frame no_attributes 0 blank_cell (omega arith) on.size.some_rows on.size.some_columns);
-      frames = (let P : List Frame → Type 0 = λ fs. AreFrames d.rows d.columns (size_on sheets) (d.made + 1) fs in
-          subst P (sym (map-append frame_of d.windows _)) (frames_more d.rows d.columns (size_on sheets) d.made frames frame still (omega (arith, many))
+      frames = (let P : List Frame → Type 0 = λ fs. AreFrames d.rows d.columns (size_on surfaces) (d.made + 1) fs in
+          subst P (sym (map-append frame_of d.windows _)) (frames_more d.rows d.columns (size_on surfaces) d.made frames frame still (omega (arith, many))
           (record {
             some_rows = on.size.some_rows;
             some_columns = on.size.some_columns;
@@ -231,16 +225,16 @@ root_is_desk laws d rows columns origin h few made on =
             right = omega (arith, ap (λ (s : ℕ × ℕ). s.1) last);
             origin = on.on_screen;
           })
-          refl refl tt));
+          (λ k e b none none_last same. (let there = before_last d.rows d.columns d.surfaces (get_or frames k e) (h.frames.placed k e b) in omega (arith, there, same))) refl tt));
     }
 
-pub root_added : SurfaceLaws → (d old : DeskView) → d ≡ old → (rows columns : ℕ) (origin : Option (ℕ × ℕ)) (surface : SurfaceView) (new : WindowView) (ss : List Sheet) (ws : List WindowView) → IsDesk d → IsRootPlace old rows columns origin
+pub root_added : SurfaceLaws → (d old : DeskView) → d ≡ old → (rows columns : ℕ) (origin : Option (ℕ × ℕ)) (surface : SurfaceView) (new : WindowView) (ss : List SurfaceView) (ws : List WindowView) → IsDesk d → IsRootPlace old rows columns origin
     → surface ≡ blank_surface rows columns → new ≡ fresh_window (root_frame d rows columns origin) no_attributes 0 blank_cell
-    → ss ≡ d.surfaces ++ record { number = d.made + 1; surface = surface } ∷ [] → ws ≡ d.windows ++ new ∷ [] → length d.windows < 1000 → d.made < 4294967295 → IsDesk (record d { surfaces = ss; windows = ws; made = d.made + 1 })
+    → ss ≡ d.surfaces ++ surface ∷ [] → ws ≡ d.windows ++ new ∷ [] → length d.windows < 1000 → d.made < 4294967295 → IsDesk (record d { surfaces = ss; windows = ws; made = d.made + 1 })
 root_added laws d old is rows columns origin surface new ss ws h on surface_is new_is ss_is ws_is few made =
     let I : DeskView → Type 0 = λ v. IsRootPlace v rows columns origin in
     let whole : record d { surfaces = ss; windows = ws; made = d.made + 1 } ≡ with_root d rows columns origin
-    = (λ j. record d { surfaces = (ss_is ∙ ap (λ v. d.surfaces ++ record { number = d.made + 1; surface = v } ∷ []) surface_is) j; windows = (ws_is ∙ ap (λ v. d.windows ++ v ∷ []) new_is) j; made = d.made + 1 }) in
+    = (λ j. record d { surfaces = (ss_is ∙ ap (λ v. d.surfaces ++ v ∷ []) surface_is) j; windows = (ws_is ∙ ap (λ v. d.windows ++ v ∷ []) new_is) j; made = d.made + 1 }) in
     let P : DeskView → Type 0 = λ v. IsDesk v in
     subst P (sym whole) (root_is_desk laws d rows columns origin h few made (subst I (sym is) on))
 

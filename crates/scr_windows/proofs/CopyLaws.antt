@@ -7,15 +7,13 @@ use Rattle.scr_windows.specs.declared.surfaces.areas.Area.{Area}
 use Rattle.scr_windows.specs.Surfaces.SurfaceLaws.{SurfaceLaws}
 use Rattle.scr_windows.specs.Surfaces.SurfaceViews.{SurfaceView, IsPart, cell_of, inside_at, is_inside, filled}
 use Rattle.scr_windows.specs.Surfaces.Formulas.{block_at, laid, part_laid, part_of}
-use Rattle.scr_windows.specs.Sheets.{with_surface}
 use Rattle.scr_windows.specs.DeskViews.{DeskView, surface_at, window_at}
 use Rattle.scr_windows.specs.Changes.{marked, write}
 use Rattle.scr_windows.specs.Calls.Reading.{at}
 use Rattle.scr_windows.specs.Calls.Copying.{copied}
 use Rattle.scr_windows.specs.declared.frames.Frame.{Frame}
-use Rattle.scr_windows.specs.declared.sheets.Sheet.{Sheet}
 use Rattle.scr_windows.specs.DeskViews.{WindowView}
-use Rattle.scr_windows.proofs.DeskLaws.{Draws, Finds, frame_path, surface_path}
+use Rattle.scr_windows.proofs.DeskLaws.{Draws, Reads, frame_path, surface_path}
 use Rattle.scr_windows.proofs.GridLaws.{is_inside_tells}
 
 cond_same : {X : Type 0} (b : Bool) (x y z : X) → (b ≡ true → x ≡ y) → cond b x z ≡ cond b y z
@@ -47,7 +45,7 @@ block_copied laws grids d source target row column part overlay block is =
     cond_same (is_inside part r c) (laid overlay (block_at (block_of d source row column part) (r - part.top) (c - part.left)) (before r c)) (laid overlay (at d source (row + (r - part.top)) (column + (c - part.left))) (before r c)) (before r c) (λ t.
     let i = is_inside_tells part r c t in ap (λ cell. laid overlay cell (before r c)) (cells (r - part.top) (c - part.left) (omega (arith, i.0, i.1)) (omega (arith, i.2, i.3))))) in
     ap (λ (b : GridView CellView). write d target part.top (part.top + b.rows) (λ x. part_laid overlay (part_of part.top part.left b) (block_at b) x)) is
-    ∙ (λ j. record d { surfaces = with_surface (window_at d target).frame.surface (same j) d.surfaces; windows = slice_set d.windows target (marked part.top (part.top + part.rows) true (window_at d target)) })
+    ∙ (λ j. record d { surfaces = slice_set d.surfaces (window_at d target).frame.surface (same j); windows = slice_set d.windows target (marked part.top (part.top + part.rows) true (window_at d target)) })
 
 -- a part of an area is one of the surface
 pub part_within : (s : SurfaceView) (area : Area) (row column rows columns : ℕ) → IsPart s area → 1 ≤ rows → 1 ≤ columns → row + rows ≤ area.rows → column + columns ≤ area.columns
@@ -55,11 +53,11 @@ pub part_within : (s : SurfaceView) (area : Area) (row column rows columns : ℕ
 part_within s area row column rows columns p h k below right = record { some_rows = h; some_columns = k; below = omega (arith, p.below); right = omega (arith, p.right) }
 
 -- what was read is the block of the definition
-pub block_read : (d old : DeskView) (i k : ℕ) (w : WindowView) (frame : Frame) (sheet : Sheet) (row column : ℕ) (part : Area) (block : GridView CellView) → Draws d old i w frame → Finds d frame.surface k sheet
-    → block ≡ record { rows = part.rows; columns = part.columns; lines = grid_of part.rows part.columns (inside_at sheet.surface (further frame.area row column part)) } → block ≡ block_of old i row column part
-block_read d old i k w frame sheet row column part block h f is =
+pub block_read : (d old : DeskView) (i : ℕ) (w : WindowView) (frame : Frame) (s : SurfaceView) (row column : ℕ) (part : Area) (block : GridView CellView) → Draws d old i w frame → Reads d.surfaces frame.surface s
+    → block ≡ record { rows = part.rows; columns = part.columns; lines = grid_of part.rows part.columns (inside_at s (further frame.area row column part)) } → block ≡ block_of old i row column part
+block_read d old i w frame s row column part block h r is =
     let frames : frame ≡ (window_at d i).frame = frame_path d old i w frame h in
-    let surfaces : sheet.surface ≡ surface_at d (window_at d i).frame.surface = surface_path d old i k w frame sheet h f in
-    let here : record { rows = part.rows; columns = part.columns; lines = grid_of part.rows part.columns (inside_at sheet.surface (further frame.area row column part)) } ≡ block_of d i row column part
+    let surfaces : s ≡ surface_at d (window_at d i).frame.surface = surface_path d old i w frame s h r in
+    let here : record { rows = part.rows; columns = part.columns; lines = grid_of part.rows part.columns (inside_at s (further frame.area row column part)) } ≡ block_of d i row column part
     = (λ j. record { rows = part.rows; columns = part.columns; lines = grid_of part.rows part.columns (inside_at (surfaces j) (further (frames j).area row column part)) }) in
     is ∙ here ∙ ap (λ v. block_of v i row column part) h.is

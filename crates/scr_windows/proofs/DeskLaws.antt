@@ -1,5 +1,5 @@
 -- Changes that keep a desk one.
-use Rattle.std.proofs.Common.{◌≡◌, ℕ, ◌<◌, ◌≤◌, sym, subst, ◌∙◌, ap, refl, arith, List, [], ◌∷◌, zero, suc, length, map, get_or, Bool, true}
+use Rattle.std.proofs.Common.{◌≡◌, ℕ, ◌<◌, sym, subst, ◌∙◌, ap, refl, arith, List, [], ◌∷◌, zero, suc, length, map, get_or, Bool, true}
 use Rattle.std.specs.Prelude.{slice_set}
 use Rattle.std.specs.List.{range_with_len}
 use Rattle.std.proofs.Math.Seq.{map-set_same}
@@ -11,16 +11,14 @@ use Rattle.scr_windows.specs.declared.surfaces.areas.Area.{Area}
 use Rattle.scr_windows.specs.declared.frames.Frame.{Frame}
 use Rattle.scr_windows.specs.declared.frames.WindowState.{WindowState}
 use Rattle.scr_windows.specs.Surfaces.SurfaceViews.{SurfaceView, IsSurface, IsPart, filled, inside_at}
-use Rattle.scr_windows.specs.DeskViews.{WindowView, DeskView, IsState, IsWindow, IsPlaced, AreFrames, IsDesk, window_at, AreAscending, surface_at, no_window, no_frame, IsThere}
-use Rattle.scr_windows.specs.declared.sheets.Sheet.{Sheet}
-use Rattle.scr_windows.specs.Sheets.{HasSheet, no_sheet, size_on, with_surface}
-use Rattle.scr_windows.proofs.SheetLaws.{all_put, has_sheet, sheets_put, sizes_put, surface_found, surface_put}
+use Rattle.scr_windows.specs.DeskViews.{WindowView, DeskView, IsState, IsWindow, IsPlaced, AreFrames, IsDesk, window_at, AreAscending, surface_at, size_on, no_window, no_frame, no_surface, IsThere}
+use Rattle.scr_windows.proofs.SizeLaws.{is_surface_there, size_set}
 use Rattle.scr_windows.specs.declared.surfaces.drawings.Drawing.{Drawing}
 use Rattle.scr_windows.specs.Surfaces.Drawings.{drawn}
 use Rattle.scr_windows.specs.Surfaces.SurfaceLaws.{SurfaceLaws}
-use Rattle.scr_windows.specs.Code.Canvases.{IsKept, IsSheetOf, lines_drawn}
+use Rattle.scr_windows.specs.Code.Canvases.{IsKept, lines_drawn}
 use Rattle.scr_windows.specs.Changes.{fill, with_window, marked, marked_lines, write}
-use Rattle.scr_windows.specs.Calls.Reading.{at, row_at, contents}
+use Rattle.scr_windows.specs.Calls.Reading.{row_at, contents}
 use Rattle.scr_windows.specs.Lending.{lines_in}
 
 pub length_map : {X Y : Type 0} (f : X → Y) (xs : List X) → length (map f xs) ≡ length xs
@@ -43,13 +41,12 @@ placed d i h l =
     let is : get_or (map frame_of d.windows) i no_frame ≡ frame = get_or-map frame_of d.windows i no_window no_frame l in
     let P : Frame → Type 0 = λ f. IsPlaced d.rows d.columns (size_on d.surfaces) f in
     let p : IsPlaced d.rows d.columns (size_on d.surfaces) frame = subst P is (h.frames.placed i no_frame (omega arith)) in
-    let on : HasSheet d.surfaces frame.surface = has_sheet d.surfaces frame.surface (omega (arith, p.some_rows, p.below)) in
-    let S : SurfaceView → Type 0 = λ s. IsSurface s in
+    let on : frame.surface < length d.surfaces = is_surface_there d.surfaces frame.surface (omega (arith, p.some_rows, p.below)) in
     record {
       here = l;
       window = h.windows i no_window l;
       surface = on;
-      whole = subst S (surface_found d.surfaces frame.surface on.0 h.sheets on.1 on.2) (h.surfaces on.0 no_sheet on.1);
+      whole = h.surfaces frame.surface no_surface on;
       screen = h.size;
       origin = p.origin;
       part = record { some_rows = p.some_rows; some_columns = p.some_columns; below = p.below; right = p.right };
@@ -61,8 +58,6 @@ with_window_is_desk d i w h l same is = record {
   size = h.size;
   made = h.made;
   surfaces = h.surfaces;
-  sheets = h.sheets;
-  given = h.given;
   windows = All-set IsWindow d.windows i w is h.windows;
   frames = (let P : List Frame → Type 0 = λ frames. AreFrames d.rows d.columns (size_on d.surfaces) d.made frames in subst P (sym (map-set_same frame_of d.windows i w no_window same)) h.frames);
 }
@@ -75,15 +70,13 @@ fill_is_desk laws d i f h l =
     let s : SurfaceView = surface_at d k in
     let a : Area = (window_at d i).frame.area in
     let new : SurfaceView = filled s a (f (inside_at s a)) in
-    let sizes : (n : ℕ) → size_on (with_surface k new d.surfaces) n ≡ size_on d.surfaces n = sizes_put d.surfaces k new p.surface (λ j. (laws.filled_rows s a (f (inside_at s a)) j, laws.filled_columns s a (f (inside_at s a)) j)) in
+    let sizes : (n : ℕ) → size_on (slice_set d.surfaces k new) n ≡ size_on d.surfaces n = size_set d.surfaces k new p.surface (λ j. (laws.filled_rows s a (f (inside_at s a)) j, laws.filled_columns s a (f (inside_at s a)) j)) in
     let P : (ℕ → ℕ × ℕ) → Type 0 = λ zs. AreFrames d.rows d.columns zs d.made (map frame_of d.windows) in
-    let same : size_on (with_surface k new d.surfaces) ≡ size_on d.surfaces = (λ j n. sizes n j) in
+    let same : size_on (slice_set d.surfaces k new) ≡ size_on d.surfaces = (λ j n. sizes n j) in
     record {
       size = h.size;
       made = h.made;
-      surfaces = all_put (λ (sheet : Sheet). IsSurface sheet.surface) d.surfaces k new (λ sheet _. laws.filled_surface s a (f (inside_at s a)) p.whole) h.surfaces;
-      sheets = sheets_put d.surfaces k new h.sheets;
-      given = all_put (λ (sheet : Sheet). sheet.number ≤ d.made) d.surfaces k new (λ sheet b. b) h.given;
+      surfaces = All-set IsSurface d.surfaces k new (laws.filled_surface s a (f (inside_at s a)) p.whole) h.surfaces;
       windows = h.windows;
       frames = subst P (sym same) h.frames;
     }
@@ -144,7 +137,7 @@ lines_marked d old is i w new first end mark h l e n =
     let Q : WindowView → Type 0 = λ v. IsWindow v in
     with_window_is_desk d i new h here same (subst Q (sym (n ∙ ap (marked first end mark) at)) (marked_is_window first end mark _ (placed d i h here).window))
 
--- what a drawing knows: the window, its frame, and the surface that it reads
+-- what a drawing knows: the window and its frame
 pub record Draws (d old : DeskView) (i : ℕ) (w : WindowView) (frame : Frame) : Type 0 where
   pub is : d ≡ old
   pub desk : IsDesk d
@@ -155,85 +148,48 @@ pub record Draws (d old : DeskView) (i : ℕ) (w : WindowView) (frame : Frame) :
 pub frame_path : (d old : DeskView) (i : ℕ) (w : WindowView) (frame : Frame) → Draws d old i w frame → frame ≡ (window_at d i).frame
 frame_path d old i w frame h = h.frame_is ∙ ap frame_of (reads_window d i w h.window (here_too d old i h.is h.here))
 
+pub frame_read : (d old : DeskView) (i : ℕ) (w : WindowView) (frame : Frame) → Draws d old i w frame → frame ≡ (window_at old i).frame
+frame_read d old i w frame h = frame_path d old i w frame h ∙ ap (λ v. (window_at v i).frame) h.is
+
 -- the surface of the window is there
-pub draws_on : (d old : DeskView) (i : ℕ) (w : WindowView) (frame : Frame) → Draws d old i w frame → HasSheet d.surfaces frame.surface
+pub draws_on : (d old : DeskView) (i : ℕ) (w : WindowView) (frame : Frame) → Draws d old i w frame → frame.surface < length d.surfaces
 draws_on d old i w frame h =
-    let P : Frame → Type 0 = λ f. HasSheet d.surfaces f.surface in
+    let P : Frame → Type 0 = λ f. f.surface < length d.surfaces in
     subst P (sym (frame_path d old i w frame h)) (placed d i h.desk (here_too d old i h.is h.here)).surface
 
--- what a drawing knows of the surface: where it was found, and what was read there
-pub record Finds (d : DeskView) (number k : ℕ) (sheet : Sheet) : Type 0 where
-  pub within : k < length d.surfaces
-  pub number_is : (get_or d.surfaces k no_sheet).number ≡ number
-  pub sheet_is : Reads d.surfaces k sheet
+-- the surface that is read at the index that the frame holds
+pub surface_path : (d old : DeskView) (i : ℕ) (w : WindowView) (frame : Frame) (s : SurfaceView) → Draws d old i w frame → Reads d.surfaces frame.surface s → s ≡ surface_at d (window_at d i).frame.surface
+surface_path d old i w frame s h r =
+    r ∙ get_or_any d.surfaces frame.surface s no_surface (draws_on d old i w frame h) ∙ ap (λ (g : Frame). surface_at d g.surface) (frame_path d old i w frame h)
 
-pub found : (d : DeskView) (items : List Sheet) (number k : ℕ) (sheet : Sheet) → items ≡ d.surfaces → k < length items → (get_or items k no_sheet).number ≡ number → Reads d.surfaces k sheet → Finds d number k sheet
-found d items number k sheet is l e r =
-    let P : List Sheet → Type 0 = λ ss. (k < length ss) × ((get_or ss k no_sheet).number ≡ number) in
-    let at = subst P is (l, e) in
-    record { within = at.0; number_is = at.1; sheet_is = r }
-
--- what the search for the surface asks
-pub can_find : (d old : DeskView) (i : ℕ) (w : WindowView) (frame : Frame) (items : List Sheet) → Draws d old i w frame → items ≡ d.surfaces → HasSheet items frame.surface
-can_find d old i w frame items h is =
-    let P : List Sheet → Type 0 = λ ss. HasSheet ss frame.surface in
-    subst P (sym is) (draws_on d old i w frame h)
-
-pub sheet_path : (d : DeskView) (number k : ℕ) (sheet : Sheet) → Finds d number k sheet → sheet ≡ get_or d.surfaces k no_sheet
-sheet_path d number k sheet f = f.sheet_is ∙ get_or_any d.surfaces k sheet no_sheet f.within
-
-pub surface_path : (d old : DeskView) (i k : ℕ) (w : WindowView) (frame : Frame) (sheet : Sheet) → Draws d old i w frame → Finds d frame.surface k sheet → sheet.surface ≡ surface_at d (window_at d i).frame.surface
-surface_path d old i k w frame sheet h f =
-    ap (λ (s : Sheet). s.surface) (sheet_path d frame.surface k sheet f) ∙ surface_found d.surfaces frame.surface k h.desk.sheets f.within f.number_is ∙ ap (λ (g : Frame). surface_at d g.surface) (frame_path d old i w frame h)
-
-pub draws_part : (d old : DeskView) (i k : ℕ) (w : WindowView) (frame : Frame) (sheet : Sheet) → Draws d old i w frame → Finds d frame.surface k sheet → IsPart sheet.surface frame.area
-draws_part d old i k w frame sheet h f =
+pub draws_part : (d old : DeskView) (i : ℕ) (w : WindowView) (frame : Frame) (s : SurfaceView) → Draws d old i w frame → Reads d.surfaces frame.surface s → IsPart s frame.area
+draws_part d old i w frame s h r =
     let P : SurfaceView → Type 0 = λ v. IsPart v frame.area in
     let Q : Frame → Type 0 = λ g. IsPart (surface_at d (window_at d i).frame.surface) g.area in
-    subst P (sym (surface_path d old i k w frame sheet h f)) (subst Q (sym (frame_path d old i w frame h)) (placed d i h.desk (here_too d old i h.is h.here)).part)
-
-pub draws_whole : (d old : DeskView) (i k : ℕ) (w : WindowView) (frame : Frame) (sheet : Sheet) → Draws d old i w frame → Finds d frame.surface k sheet → IsSurface sheet.surface
-draws_whole d old i k w frame sheet h f =
-    let P : SurfaceView → Type 0 = λ v. IsSurface v in
-    subst P (sym (surface_path d old i k w frame sheet h f)) (placed d i h.desk (here_too d old i h.is h.here)).whole
-
--- a surface that was found before the window was read
-pub found_before : (d old : DeskView) (i k : ℕ) (w : WindowView) (frame : Frame) (sheet : Sheet) → Draws d old i w frame → IsSheetOf old i k → Reads d.surfaces k sheet → Finds d frame.surface k sheet
-found_before d old i k w frame sheet h there reads =
-    record {
-      within = omega (arith, there.within, ap (λ v. length v.surfaces) h.is);
-      number_is = ap (λ v. (get_or v.surfaces k no_sheet).number) h.is ∙ there.number ∙ sym (ap (λ v. (window_at v i).frame.surface) h.is) ∙ sym (ap (λ (g : Frame). g.surface) (frame_path d old i w frame h));
-      sheet_is = reads;
-    }
+    subst P (sym (surface_path d old i w frame s h r)) (subst Q (sym (frame_path d old i w frame h)) (placed d i h.desk (here_too d old i h.is h.here)).part)
 
 -- the desk after lines were marked and the surface was filled
-pub written_path : (d old : DeskView) (i k : ℕ) (w m : WindowView) (frame : Frame) (sheet new : Sheet) (t : SurfaceView) (first end : ℕ) (f : (ℕ → ℕ → CellView) → ℕ → ℕ → CellView)
-    → Draws d old i w frame → Finds d frame.surface k sheet → m ≡ marked first end true w → t ≡ filled sheet.surface frame.area (f (inside_at sheet.surface frame.area)) → new ≡ record sheet { surface = t }
-    → record d { surfaces = slice_set d.surfaces k new; windows = slice_set d.windows i m } ≡ write d i first end f
+pub written_path : (d old : DeskView) (i : ℕ) (w m : WindowView) (frame : Frame) (s t : SurfaceView) (first end : ℕ) (f : (ℕ → ℕ → CellView) → ℕ → ℕ → CellView)
+    → Draws d old i w frame → Reads d.surfaces frame.surface s → m ≡ marked first end true w → t ≡ filled s frame.area (f (inside_at s frame.area))
+    → record d { surfaces = slice_set d.surfaces frame.surface t; windows = slice_set d.windows i m } ≡ write d i first end f
 unfolding write
-written_path d old i k w m frame sheet new t first end f h r marks cells new_is =
-    let here : i < length d.windows = here_too d old i h.is h.here in
-    let at : w ≡ window_at d i = reads_window d i w h.window here in
+written_path d old i w m frame s t first end f h r marks cells =
+    let at : w ≡ window_at d i = reads_window d i w h.window (here_too d old i h.is h.here) in
     let frames : frame ≡ (window_at d i).frame = frame_path d old i w frame h in
-    let surfaces : sheet.surface ≡ surface_at d (window_at d i).frame.surface = surface_path d old i k w frame sheet h r in
+    let surfaces : s ≡ surface_at d (window_at d i).frame.surface = surface_path d old i w frame s h r in
     let windows_is : m ≡ marked first end true (window_at d i) = marks ∙ ap (marked first end true) at in
     let cells_is : t ≡ filled (surface_at d (window_at d i).frame.surface) (window_at d i).frame.area (f (inside_at (surface_at d (window_at d i).frame.surface) (window_at d i).frame.area))
     = cells ∙ (λ j. filled (surfaces j) (frames j).area (f (inside_at (surfaces j) (frames j).area))) in
-    let found : sheet ≡ get_or d.surfaces k no_sheet = sheet_path d frame.surface k sheet r in
-    let put : slice_set d.surfaces k new ≡ with_surface frame.surface t d.surfaces
-    = surface_put d.surfaces frame.surface k t new h.desk.sheets r.within r.number_is (new_is ∙ (λ j. record (found j) { surface = t })) in
-    let sheets : slice_set d.surfaces k new ≡ with_surface (window_at d i).frame.surface (filled (surface_at d (window_at d i).frame.surface) (window_at d i).frame.area (f (inside_at (surface_at d (window_at d i).frame.surface) (window_at d i).frame.area))) d.surfaces
-    = put ∙ (λ j. with_surface (frames j).surface (cells_is j) d.surfaces) in
-    (λ j. record d { surfaces = sheets j; windows = slice_set d.windows i (windows_is j) })
+    (λ j. record d { surfaces = slice_set d.surfaces (frames j).surface (cells_is j); windows = slice_set d.windows i (windows_is j) })
 
-pub drawn_is_desk : SurfaceLaws → (d old : DeskView) (i k : ℕ) (w m : WindowView) (frame : Frame) (sheet new : Sheet) (t : SurfaceView) (first end : ℕ) (f : (ℕ → ℕ → CellView) → ℕ → ℕ → CellView)
-    → Draws d old i w frame → Finds d frame.surface k sheet → m ≡ marked first end true w → t ≡ filled sheet.surface frame.area (f (inside_at sheet.surface frame.area)) → new ≡ record sheet { surface = t }
-    → IsDesk (record d { surfaces = slice_set d.surfaces k new; windows = slice_set d.windows i m })
+pub drawn_is_desk : SurfaceLaws → (d old : DeskView) (i : ℕ) (w m : WindowView) (frame : Frame) (s t : SurfaceView) (first end : ℕ) (f : (ℕ → ℕ → CellView) → ℕ → ℕ → CellView)
+    → Draws d old i w frame → Reads d.surfaces frame.surface s → m ≡ marked first end true w → t ≡ filled s frame.area (f (inside_at s frame.area))
+    → IsDesk (record d { surfaces = slice_set d.surfaces frame.surface t; windows = slice_set d.windows i m })
 unfolding write
-drawn_is_desk laws d old i k w m frame sheet new t first end f h r marks cells new_is =
+drawn_is_desk laws d old i w m frame s t first end f h r marks cells =
     let here : i < length d.windows = here_too d old i h.is h.here in
     let P : DeskView → Type 0 = λ v. IsDesk v in
-    subst P (sym (written_path d old i k w m frame sheet new t first end f h r marks cells new_is))
+    subst P (sym (written_path d old i w m frame s t first end f h r marks cells))
     (with_window_is_desk (fill d i f) i (marked first end true (window_at d i)) (fill_is_desk laws d i f h.desk here) here refl (marked_is_window first end true _ (placed d i h.desk here).window))
 
 -- what is written stays where it was
@@ -244,41 +200,34 @@ write_keeps d i first end f l =
     record { here = omega (arith, l, length-set d.windows i (marked first end true (window_at d i))); frame = ap frame_of at; state = ap (λ (w : WindowView). w.state) at; size = record { rows = refl; columns = refl } }
 
 -- a drawing is the definition
-pub drawing_path : (d old : DeskView) (i k : ℕ) (w m : WindowView) (frame : Frame) (sheet new : Sheet) (t : SurfaceView) (lines : ℕ × ℕ) (drawing : Drawing) → Draws d old i w frame → Finds d frame.surface k sheet → lines ≡ lines_drawn drawing frame.area.rows
-    → m ≡ marked lines.0 lines.1 true w → t ≡ filled sheet.surface frame.area (drawn drawing frame.area.rows frame.area.columns (inside_at sheet.surface frame.area)) → new ≡ record sheet { surface = t }
-    → record d { surfaces = slice_set d.surfaces k new; windows = slice_set d.windows i m }
+pub drawing_path : (d old : DeskView) (i : ℕ) (w m : WindowView) (frame : Frame) (s t : SurfaceView) (lines : ℕ × ℕ) (drawing : Drawing) → Draws d old i w frame → Reads d.surfaces frame.surface s → lines ≡ lines_drawn drawing frame.area.rows
+    → m ≡ marked lines.0 lines.1 true w → t ≡ filled s frame.area (drawn drawing frame.area.rows frame.area.columns (inside_at s frame.area))
+    → record d { surfaces = slice_set d.surfaces frame.surface t; windows = slice_set d.windows i m }
     ≡ write old i (lines_drawn drawing (window_at old i).frame.area.rows).0 (lines_drawn drawing (window_at old i).frame.area.rows).1 (drawn drawing (window_at old i).frame.area.rows (window_at old i).frame.area.columns)
-drawing_path d old i k w m frame sheet new t lines drawing h r lines_is marks cells new_is =
+drawing_path d old i w m frame s t lines drawing h r lines_is marks cells =
     let frames : frame ≡ (window_at d i).frame = frame_path d old i w frame h in
     let all : lines ≡ lines_drawn drawing (window_at d i).frame.area.rows = lines_is ∙ ap (λ (f : Frame). lines_drawn drawing f.area.rows) frames in
     let here : write d i lines.0 lines.1 (drawn drawing frame.area.rows frame.area.columns)
     ≡ write d i (lines_drawn drawing (window_at d i).frame.area.rows).0 (lines_drawn drawing (window_at d i).frame.area.rows).1 (drawn drawing (window_at d i).frame.area.rows (window_at d i).frame.area.columns)
     = (λ j. write d i (all j).0 (all j).1 (drawn drawing (frames j).area.rows (frames j).area.columns)) in
-    written_path d old i k w m frame sheet new t lines.0 lines.1 (drawn drawing frame.area.rows frame.area.columns) h r marks cells new_is
+    written_path d old i w m frame s t lines.0 lines.1 (drawn drawing frame.area.rows frame.area.columns) h r marks cells
     ∙ here
     ∙ ap (λ v. write v i (lines_drawn drawing (window_at v i).frame.area.rows).0 (lines_drawn drawing (window_at v i).frame.area.rows).1 (drawn drawing (window_at v i).frame.area.rows (window_at v i).frame.area.columns)) h.is
 
-pub draws_at : (d old : DeskView) (i k : ℕ) (w : WindowView) (frame : Frame) (sheet : Sheet) → Draws d old i w frame → Finds d frame.surface k sheet → (r c : ℕ) → inside_at sheet.surface frame.area r c ≡ at old i r c
-draws_at d old i k w frame sheet h f r c =
+pub draws_row : (d old : DeskView) (i : ℕ) (w : WindowView) (frame : Frame) (s : SurfaceView) → Draws d old i w frame → Reads d.surfaces frame.surface s → (row : ℕ)
+    → map (inside_at s frame.area row) (range_with_len 0 frame.area.columns) ≡ row_at old i row
+draws_row d old i w frame s h r row =
     let frames : frame ≡ (window_at d i).frame = frame_path d old i w frame h in
-    let surfaces : sheet.surface ≡ surface_at d (window_at d i).frame.surface = surface_path d old i k w frame sheet h f in
-    let here : inside_at sheet.surface frame.area r c ≡ at d i r c = (λ j. inside_at (surfaces j) (frames j).area r c) in
-    here ∙ ap (λ v. at v i r c) h.is
-
-pub draws_row : (d old : DeskView) (i k : ℕ) (w : WindowView) (frame : Frame) (sheet : Sheet) → Draws d old i w frame → Finds d frame.surface k sheet → (row : ℕ)
-    → map (inside_at sheet.surface frame.area row) (range_with_len 0 frame.area.columns) ≡ row_at old i row
-draws_row d old i k w frame sheet h r row =
-    let frames : frame ≡ (window_at d i).frame = frame_path d old i w frame h in
-    let surfaces : sheet.surface ≡ surface_at d (window_at d i).frame.surface = surface_path d old i k w frame sheet h r in
-    let here : map (inside_at sheet.surface frame.area row) (range_with_len 0 frame.area.columns) ≡ row_at d i row = (λ j. map (inside_at (surfaces j) (frames j).area row) (range_with_len 0 (frames j).area.columns)) in
+    let surfaces : s ≡ surface_at d (window_at d i).frame.surface = surface_path d old i w frame s h r in
+    let here : map (inside_at s frame.area row) (range_with_len 0 frame.area.columns) ≡ row_at d i row = (λ j. map (inside_at (surfaces j) (frames j).area row) (range_with_len 0 (frames j).area.columns)) in
     here ∙ ap (λ v. row_at v i row) h.is
 
-pub draws_contents : (d old : DeskView) (i k : ℕ) (w : WindowView) (frame : Frame) (sheet : Sheet) → Draws d old i w frame → Finds d frame.surface k sheet
-    → record { window = w; lines = lines_in sheet.surface w.frame.area } ≡ contents old i
-draws_contents d old i k w frame sheet h r =
+pub draws_contents : (d old : DeskView) (i : ℕ) (w : WindowView) (frame : Frame) (s : SurfaceView) → Draws d old i w frame → Reads d.surfaces frame.surface s
+    → record { window = w; lines = lines_in s w.frame.area } ≡ contents old i
+draws_contents d old i w frame s h r =
     let at : w ≡ window_at d i = reads_window d i w h.window (here_too d old i h.is h.here) in
-    let surfaces : sheet.surface ≡ surface_at d (window_at d i).frame.surface = surface_path d old i k w frame sheet h r in
-    let here : record { window = w; lines = lines_in sheet.surface w.frame.area } ≡ contents d i = (λ j. record { window = at j; lines = lines_in (surfaces j) (at j).frame.area }) in
+    let surfaces : s ≡ surface_at d (window_at d i).frame.surface = surface_path d old i w frame s h r in
+    let here : record { window = w; lines = lines_in s w.frame.area } ≡ contents d i = (λ j. record { window = at j; lines = lines_in (surfaces j) (at j).frame.area }) in
     here ∙ ap (λ v. contents v i) h.is
 
 pub placed_by : (d old : DeskView) (i : ℕ) → d ≡ old → IsDesk d → i < length old.windows → IsThere old i

@@ -1,12 +1,12 @@
 -- What another size of a window keeps.
-use Rattle.std.proofs.Common.{◌≡◌, ◌≢◌, ℕ, ◌<◌, sym, ◌∙◌, ap, refl, length, Option, None, Some, Bool, true, false, cond, Result, Ok, Err}
+use Rattle.std.proofs.Common.{◌≡◌, ◌≢◌, ℕ, ◌<◌, sym, subst, ◌∙◌, ap, refl, length, Option, None, Some, Bool, true, false, cond, Result, Ok, Err}
 use Rattle.std.proofs.lemmas.List.{get_or-set_other}
 use Rattle.scr_windows.specs.declared.surfaces.areas.Area.{Area}
 use Rattle.scr_windows.specs.declared.frames.Frame.{Frame}
 use Rattle.scr_windows.specs.declared.faults.WinFault.{WinFault}
 use Rattle.scr_windows.specs.declared.faults.WinFault.TheVariants.{HasChildren}
 use Rattle.scr_windows.specs.Surfaces.SurfaceViews.{SurfaceView, inside_at}
-use Rattle.scr_windows.specs.DeskViews.{DeskView, IsDesk, no_window, surface_at, window_at}
+use Rattle.scr_windows.specs.DeskViews.{DeskView, IsDesk, no_surface, no_window, surface_at, window_at}
 use Rattle.scr_windows.specs.Changes.{index_of, on_window, with_window}
 use Rattle.scr_windows.specs.Calls.Reading.{at}
 use Rattle.scr_windows.specs.Calls.Removing.{has_children}
@@ -14,8 +14,6 @@ use Rattle.scr_windows.specs.Calls.Resizing.{area_in, ends_inside, resize_window
 use Rattle.scr_windows.specs.Laws.{ResizingKeepsOthers}
 use Rattle.scr_windows.proofs.LawLaws.{found_number}
 use Rattle.scr_windows.proofs.RemovingLaws.{alone_desk}
-use Rattle.scr_windows.proofs.ResizingLaws.{own_surface}
-use Rattle.scr_windows.proofs.SheetLaws.{put_other}
 
 -- a window and its cells are as before
 abbrev Same : DeskView → ℕ → DeskView → Type 0
@@ -51,11 +49,11 @@ other_case : (d : DeskView) (win rows columns i k : ℕ) → IsDesk d → index_
 other_case d win rows columns i k h e alone l apart None root =
     let there = found_number d win i e in
     let other : k ≢ i = λ twice. apart (ap (λ n. (window_at d n).frame.number) twice ∙ there.1) in
-    let own : (window_at d i).frame.surface ≡ win = own_surface d i h there.0 root ∙ there.1 in
-    let away : (window_at d k).frame.surface ≢ (window_at d i).frame.surface = λ on. alone_desk d win h alone k l apart (on ∙ own) in
+    let Alone : ℕ → Type 0 = λ n. has_children n d.windows ≡ false in
+    let away : (window_at d k).frame.surface ≢ (window_at d i).frame.surface = alone_desk d i h there.0 root (subst Alone (sym there.1) alone) k l other in
     root_case (Same d k) d i (root_size d (window_at d i).frame.origin rows columns) (same d k) (λ r c.
     seen d (with_root_size d i r c) k (get_or-set_other d.windows i k (resized (whole_area r c) (window_at d i)) no_window other)
-    (put_other d.surfaces (window_at d i).frame.surface (window_at d k).frame.surface _ away))
+    (get_or-set_other d.surfaces (window_at d i).frame.surface (window_at d k).frame.surface _ no_surface away))
 other_case d win rows columns i k h e alone l apart (Some parent) above =
     let there = found_number d win i e in
     let other : k ≢ i = λ twice. apart (ap (λ n. (window_at d n).frame.number) twice ∙ there.1) in

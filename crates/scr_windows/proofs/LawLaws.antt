@@ -1,7 +1,6 @@
 -- The laws of desks.
 use Rattle.std.proofs.Common.{◌≡◌, ◌≢◌, ◌⊎◌, inl, inr, ℕ, ◌+◌, ◌-◌, ◌<◌, sym, subst, ◌∙◌, ap, refl, arith, List, length, map, get_or, Option, None, Some, Bool, true, false, cond, leb, ◌==◌, ◌&&◌, Result, Ok, Err}
 use Rattle.std.specs.Prelude.{MatchOption, not, slice_set}
-use Rattle.std.specs.List.{position}
 use Rattle.std.proofs.lemmas.List.{get_or-map, get_or-set_other, get_or-set_same}
 use Rattle.std.proofs.lemmas.List.Quantifiers.{position-Some}
 use Rattle.scr_cells.specs.CellViews.{CellView}
@@ -10,17 +9,17 @@ use Rattle.scr_windows.specs.Surfaces.SurfaceLaws.{SurfaceLaws}
 use Rattle.scr_windows.specs.Surfaces.SurfaceViews.{SurfaceView, cell_of, filled, inside_at}
 use Rattle.scr_windows.specs.declared.faults.WinFault.{WinFault}
 use Rattle.scr_windows.specs.declared.frames.Frame.{Frame}
-use Rattle.scr_windows.specs.DeskViews.{AreAscending, WindowView, DeskView, IsChild, IsDesk, no_frame, no_window, surface_at, window_at}
+use Rattle.scr_windows.specs.DeskViews.{AreAscending, WindowView, DeskView, IsChild, IsDesk, no_frame, no_surface, no_window, surface_at, window_at}
 use Rattle.scr_windows.specs.Changes.{found, marked, on_window, index_of, write}
 use Rattle.scr_windows.specs.Calls.Moving.{derived_moved, move_derived_call, move_window_call, moved_in, window_moved}
 use Rattle.scr_windows.specs.Calls.Reading.{at}
-use Rattle.scr_windows.specs.Calls.Removing.{others, deleted}
-use Rattle.scr_windows.specs.Laws.{DeletingKeepsOthers, MovingChangesNoCell, SubwindowsShareCells, WindowsArePlaced, WritingStaysInside}
+use Rattle.scr_windows.specs.Calls.Removing.{deleted, has_children, let_go, moved_up, on_surface, others, without_surface, without_window}
+use Rattle.scr_windows.specs.Laws.{DeletingKeepsOthers, IsKeptAt, MovingChangesNoCell, SubwindowsShareCells, WindowsArePlaced, WritingStaysInside}
 use Rattle.scr_windows.proofs.DeskLaws.{desk_ascends, frame_of, length_map, number_of, placed}
-use Rattle.scr_windows.proofs.FrameLaws.{was_found}
-use Rattle.scr_windows.proofs.NumberLaws.{differs, equal, is_not, kept_in_filter, position_of}
-use Rattle.scr_windows.proofs.RemovingLaws.{alone_desk, deleted_is_desk}
-use Rattle.scr_windows.proofs.SheetLaws.{is_or_not, put_other, put_there, surface_less}
+use Rattle.scr_windows.proofs.FrameLaws.{reframed, was_found}
+use Rattle.scr_windows.proofs.NumberLaws.{differs, equal, is_not, is_or_not, kept_in_filter, position_of}
+use Rattle.scr_windows.proofs.RemovingLaws.{alone_desk, fewer_is_desk, frame_moved, left_apart, unshared_is_desk}
+use Rattle.scr_windows.proofs.SizeLaws.{moved_same, surface_less}
 
 -- a window that was found has the number
 pub found_number : (d : DeskView) (number i : ℕ) → index_of d number ≡ Ok i → (i < length d.windows) × ((window_at d i).frame.number ≡ number)
@@ -31,18 +30,107 @@ found_number d number i e =
 pub placing : WindowsArePlaced
 placing d number i h e = placed d i h (found_number d number i e).0
 
-pub deleting : DeletingKeepsOthers
-deleting d number other k h alone apart e =
-    let at' = found_number d other k e in
+-- where a window of a number stands in a desk, it is found
+found_in : (d : DeskView) (number m : ℕ) → IsDesk d → m < length d.windows → (window_at d m).frame.number ≡ number → index_of d number ≡ Ok m
+found_in d number m h l e = ap found (position_of number_of d.windows number m no_window (desk_ascends d h) l e)
+
+-- another window is kept when one goes, and is on the same surface
+other_stays : (d : DeskView) (number other k : ℕ) → IsDesk d → has_children number d.windows ≡ false → other ≢ number → k < length d.windows → (window_at d k).frame.number ≡ other
+    → (m : ℕ) × (m < length (others number d.windows)) × (window_at (without_window d number) m ≡ window_at d k)
+other_stays d number other k h alone apart l e =
     let p : WindowView → Bool = λ w. not (w.frame.number == number) in
-    let stays : p (window_at d k) ≡ true = ap not (is_not number (window_at d k).frame.number (λ same. apart (sym at'.1 ∙ same))) in
-    let m = kept_in_filter p d.windows k no_window at'.0 stays in
-    let up = desk_ascends (deleted d number) (deleted_is_desk d number h alone) in
-    let there : position (λ (w : WindowView). w.frame.number == other) (others number d.windows) ≡ Some m.0
-    = position_of number_of (others number d.windows) other m.0 no_window up m.1 (ap number_of m.2 ∙ at'.1) in
-    let surface : (window_at d k).frame.surface ≢ number = alone_desk d number h alone k at'.0 (λ same. apart (sym at'.1 ∙ same)) in
-    let cells : surface_at (deleted d number) (window_at d k).frame.surface ≡ surface_at d (window_at d k).frame.surface = surface_less d.surfaces number (window_at d k).frame.surface surface in
-    (m.0, ap found there, m.2, λ r c. (λ j. inside_at (surface_at (deleted d number) (m.2 j).frame.surface) (m.2 j).frame.area r c) ∙ ap (λ (s : SurfaceView). inside_at s (window_at d k).frame.area r c) cells)
+    kept_in_filter p d.windows k no_window l (ap not (is_not number (window_at d k).frame.number (λ same. apart (sym e ∙ same))))
+
+-- the index of a surface after a window went, by the window's parent and surface
+index_after : Option ℕ → ℕ → ℕ → ℕ
+index_after None gone k = moved_up gone k
+index_after (Some parent) gone k = k
+
+-- where a window stands in the desk that is left, on which surface, and with which cells
+abbrev Left : DeskView → Option ℕ → ℕ → ℕ → ℕ → DeskView → Type 0
+Left d parent gone other k new =
+    (m : ℕ) × (index_of new other ≡ Ok m) × (window_at new m ≡ on_surface (index_after parent gone (window_at d k).frame.surface) (window_at d k)) × ((r c : ℕ) → at new m r c ≡ at d k r c)
+
+left_by : (d : DeskView) (i other k : ℕ) → IsDesk d → i < length d.windows → has_children (window_at d i).frame.number d.windows ≡ false → other ≢ (window_at d i).frame.number → k < length d.windows → (window_at d k).frame.number ≡ other
+    → (o : Option ℕ) → (window_at d i).frame.parent ≡ o → Left d o (window_at d i).frame.surface other k (let_go (without_window d (window_at d i).frame.number) o (window_at d i).frame.surface)
+unfolding index_after
+left_by d i other k h l alone apart b n (Some parent) sub =
+    let number : ℕ = (window_at d i).frame.number in
+    let m = other_stays d number other k h alone apart b n in
+    let new : DeskView = without_window d number in
+    (m.0, found_in new other m.0 (fewer_is_desk d number h alone) m.1 (ap number_of m.2 ∙ n), m.2, λ r c. (λ j. inside_at (surface_at d (m.2 j).frame.surface) (m.2 j).frame.area r c))
+left_by d i other k h l alone apart b n None root =
+    let number : ℕ = (window_at d i).frame.number in
+    let surface : ℕ = (window_at d i).frame.surface in
+    let m = other_stays d number other k h alone apart b n in
+    let fewer : DeskView = without_window d number in
+    let new : DeskView = without_surface fewer surface in
+    let moved : window_at new m.0 ≡ on_surface (moved_up surface (window_at d k).frame.surface) (window_at d k)
+    = get_or-map (reframed (frame_moved surface)) fewer.windows m.0 no_window no_window m.1 ∙ ap (reframed (frame_moved surface)) m.2 in
+    let desk : IsDesk new = unshared_is_desk fewer surface (fewer_is_desk d number h alone) (placed d i h l).surface (left_apart d i h l root alone) in
+    let here : m.0 < length new.windows = omega (arith, m.1, length_map (reframed (frame_moved surface)) fewer.windows) in
+    let away : (window_at d k).frame.surface ≢ surface = alone_desk d i h l root alone k b (λ same. apart (sym n ∙ ap (λ x. (window_at d x).frame.number) same)) in
+    let cells : surface_at new (moved_up surface (window_at d k).frame.surface) ≡ surface_at d (window_at d k).frame.surface = surface_less d.surfaces surface (window_at d k).frame.surface (placed d i h l).surface away in (
+      m.0,
+      found_in new other m.0 desk here (ap number_of moved ∙ n),
+      moved,
+      λ r c. (λ j. inside_at (surface_at new (moved j).frame.surface) (moved j).frame.area r c) ∙ ap (λ (s : SurfaceView). inside_at s (window_at d k).frame.area r c) cells,
+    )
+
+-- what is known of a window that has no subwindows, and of another
+record Others (d : DeskView) (number i other k : ℕ) : Type 0 where
+  pub desk : IsDesk d
+  pub gone : index_of d number ≡ Ok i
+  pub alone : has_children number d.windows ≡ false
+  pub apart : other ≢ number
+  pub stays : index_of d other ≡ Ok k
+
+left_alone : (d : DeskView) (number i other k : ℕ) → Others d number i other k → has_children (window_at d i).frame.number d.windows ≡ false
+left_alone d number i other k h = (let P : ℕ → Type 0 = λ n. has_children n d.windows ≡ false in subst P (sym (found_number d number i h.gone).1) h.alone)
+
+left : (d : DeskView) (number i other k : ℕ) → Others d number i other k → Left d (window_at d i).frame.parent (window_at d i).frame.surface other k (deleted d i)
+left d number i other k h =
+    let gone = found_number d number i h.gone in
+    let stays = found_number d other k h.stays in
+    left_by d i other k h.desk gone.0 (left_alone d number i other k h) (λ same. h.apart (same ∙ gone.1)) stays.0 stays.1 (window_at d i).frame.parent refl
+
+kept : (d : DeskView) (number i other k : ℕ) → Others d number i other k → (m : ℕ) × (index_of (deleted d i) other ≡ Ok m) × IsKeptAt d (deleted d i) k m
+kept d number i other k h =
+    let at' = left d number i other k h in
+    let surface : (window_at (deleted d i) at'.0).frame.surface ≡ index_after (window_at d i).frame.parent (window_at d i).frame.surface (window_at d k).frame.surface = ap (λ (w : WindowView). w.frame.surface) at'.2 in
+    (at'.0, at'.1, record { window = at'.2 ∙ (λ j. on_surface (sym surface j) (window_at d k)); cells = at'.3 })
+
+-- surfaces whose indices are the same afterwards were the same
+after_same : (o : Option ℕ) (gone a b : ℕ) → (o ≡ None → a ≢ gone) → (o ≡ None → b ≢ gone) → index_after o gone a ≡ index_after o gone b → a ≡ b
+unfolding index_after
+after_same None gone a b h k same = moved_same gone a b (h refl) (k refl) same
+after_same (Some parent) gone a b h k same = same
+
+-- the surface of another window after it
+surface_left : (d : DeskView) (number i other k m : ℕ) → Others d number i other k → index_of (deleted d i) other ≡ Ok m → (window_at (deleted d i) m).frame.surface ≡ index_after (window_at d i).frame.parent (window_at d i).frame.surface (window_at d k).frame.surface
+surface_left d number i other k m h f =
+    let at' = left d number i other k h in
+    let same : m ≡ at'.0 = (let twice : Ok m ≡ Ok at'.0 = sym f ∙ at'.1 in (cc)) in
+    ap (λ n. (window_at (deleted d i) n).frame.surface) same ∙ ap (λ (w : WindowView). w.frame.surface) at'.2
+
+left_away : (d : DeskView) (number i other k : ℕ) → Others d number i other k → (window_at d i).frame.parent ≡ None → (window_at d k).frame.surface ≢ (window_at d i).frame.surface
+left_away d number i other k h root =
+    let gone = found_number d number i h.gone in
+    let stays = found_number d other k h.stays in
+    alone_desk d i h.desk gone.0 root (left_alone d number i other k h) k stays.0 (λ same. h.apart (sym stays.1 ∙ ap (λ x. (window_at d x).frame.number) same ∙ gone.1))
+
+pub deleting : DeletingKeepsOthers
+deleting = record {
+  others = λ d number i other k h e alone apart f. kept d number i other k (record { desk = h; gone = e; alone = alone; apart = apart; stays = f });
+  sharing = λ d number i one other k l m n h e alone a b f g p q.
+      (let first : Others d number i one k = record { desk = h; gone = e; alone = alone; apart = a; stays = f } in
+      let second : Others d number i other l = record { desk = h; gone = e; alone = alone; apart = b; stays = g } in
+      let x = surface_left d number i one k m first p in
+      let y = surface_left d number i other l n second q in (
+        λ same. after_same (window_at d i).frame.parent (window_at d i).frame.surface (window_at d k).frame.surface (window_at d l).frame.surface (left_away d number i one k first) (left_away d number i other l second) (sym x ∙ same ∙ y),
+        λ same. x ∙ ap (index_after (window_at d i).frame.parent (window_at d i).frame.surface) same ∙ sym y,
+      ));
+}
 
 -- two indices of one number are one
 pub one_index : (d : DeskView) → AreAscending d.windows → (m i : ℕ) → m < length d.windows → i < length d.windows → (window_at d m).frame.number ≡ (window_at d i).frame.number → m ≡ i
@@ -102,13 +190,13 @@ writing laws d i first end f k r c h l m below right outside =
     here ∙ (elim (is_or_not mine number) as (λ _. inside_at (surface_at new mine) area r c ≡ at d k r c) [
       | inl t ↦ (let e : mine ≡ number = equal mine number t in
           let own : surface_at d mine ≡ s = ap (surface_at d) e in
-          let put : surface_at new mine ≡ filled s (window_at d i).frame.area g = ap (surface_at new) e ∙ put_there d.surfaces number (filled s (window_at d i).frame.area g) p.surface in
+          let put : surface_at new mine ≡ filled s (window_at d i).frame.area g = ap (surface_at new) e ∙ get_or-set_same d.surfaces number (filled s (window_at d i).frame.area g) no_surface p.surface in
           let rows : area.top + r < s.rows = omega (arith, below, q.part.below, ap (λ (v : SurfaceView). v.rows) own) in
           let columns : area.left + c < s.columns = omega (arith, right, q.part.right, ap (λ (v : SurfaceView). v.columns) own) in
           ap (λ v. inside_at v area r c) put ∙ laws.filled_at s (window_at d i).frame.area g (area.top + r) (area.left + c) rows columns
           ∙ ap (λ b. cond b (g (area.top + r - (window_at d i).frame.area.top) (area.left + c - (window_at d i).frame.area.left)) (cell_of s (area.top + r) (area.left + c))) (outside e)
           ∙ ap (λ v. inside_at v area r c) (sym own))
-      | inr t ↦ ap (λ v. inside_at v area r c) (put_other d.surfaces number mine (filled s (window_at d i).frame.area g) (differs mine number t))
+      | inr t ↦ ap (λ v. inside_at v area r c) (get_or-set_other d.surfaces number mine (filled s (window_at d i).frame.area g) no_surface (differs mine number t))
     ])
 
 -- a call that keeps the surfaces wherever the window is

@@ -23,8 +23,8 @@ pub mod ReadingLaws
 pub mod RemovingLaws
 pub mod ResizingLaws
 pub mod RunLaws
-pub mod SheetLaws
 pub mod ShiftLaws
+pub mod SizeLaws
 pub mod SyncLaws
 pub mod TextLaws
 pub mod WrittenLaws

@@ -5,11 +5,9 @@ use Rattle.std.proofs.lemmas.Nat.{mul-le}
 use Rattle.scr_cells.specs.CellViews.{CellView, IsPair, blank_cell}
 use Rattle.scr_cells.specs.PictureViews.{IsSize}
 use Rattle.scr_windows.specs.declared.frames.Frame.{Frame}
-use Rattle.scr_windows.specs.declared.sheets.Sheet.{Sheet}
-use Rattle.scr_windows.specs.Sheets.{size_on}
 use Rattle.scr_windows.specs.Surfaces.SurfaceViews.{IsSurface, IsSurfaceSize, blank_surface}
 use Rattle.scr_windows.specs.Surfaces.SurfaceLaws.{SurfaceLaws}
-use Rattle.scr_windows.specs.DeskViews.{HasOwn, IsWindow, IsPlaced, IsChild, IsDesk, no_frame, fresh_window, first_frame, first_desk, no_attributes}
+use Rattle.scr_windows.specs.DeskViews.{IsWindow, IsPlaced, IsChild, IsDesk, no_frame, fresh_window, first_frame, first_desk, no_attributes, size_on}
 
 length_replicate : {X : Type 0} (n : ℕ) (x : X) → length (replicate n x) ≡ n
 length_replicate zero x = refl
@@ -34,16 +32,14 @@ pub first_is_desk : SurfaceLaws → (rows columns : ℕ) → IsSize rows columns
 first_is_desk laws rows columns h = record {
   size = h;
   made = omega arith;
-  surfaces = all_one (λ (sheet : Sheet). IsSurface sheet.surface) (record { number = 0; surface = blank_surface rows columns }) (laws.blank rows columns (screen_is_size rows columns h));
-  sheets = λ i j d l m. absurd (omega (arith, l, m));
-  given = all_one (λ (sheet : Sheet). sheet.number ≤ 0) (record { number = 0; surface = blank_surface rows columns }) (omega arith);
+  surfaces = all_one IsSurface (blank_surface rows columns) (laws.blank rows columns (screen_is_size rows columns h));
   windows = all_one IsWindow (fresh_window (first_frame rows columns) no_attributes 0 blank_cell) (fresh_is_window (first_frame rows columns) no_attributes 0 blank_cell (omega arith) h.some_rows h.some_columns);
   frames = record {
     few = omega arith;
-    placed = all_one (IsPlaced rows columns (size_on (record { number = 0; surface = blank_surface rows columns } ∷ []))) (first_frame rows columns) (record { some_rows = h.some_rows; some_columns = h.some_columns; below = omega arith; right = omega arith; origin = (omega arith, omega arith) });
+    placed = all_one (IsPlaced rows columns (size_on (blank_surface rows columns ∷ []))) (first_frame rows columns) (record { some_rows = h.some_rows; some_columns = h.some_columns; below = omega arith; right = omega arith; origin = (omega arith, omega arith) });
     numbers = all_one (λ (frame : Frame). frame.number ≤ 0) (first_frame rows columns) (omega arith);
     ascending = λ i j l m. absurd (omega (arith, l, m));
-    roots = all_one HasOwn (first_frame rows columns) refl;
+    own = λ i j d l m. absurd (omega (arith, l, m));
     parents = all_one (λ (frame : Frame). MatchOption frame.parent (Unit {0}) (λ number. (k : ℕ) × (k < 1) × ((get_or (first_frame rows columns ∷ []) k no_frame).number ≡ number) × IsChild frame (get_or (first_frame rows columns ∷ []) k no_frame))) (first_frame rows columns) tt;
   };
 }

@@ -10,8 +10,7 @@ use Rattle.scr_windows.specs.declared.surfaces.areas.Area.{Area}
 use Rattle.scr_windows.specs.declared.frames.Frame.{Frame}
 use Rattle.scr_windows.specs.declared.calls.moving.WindowMove.{WindowMove}
 use Rattle.scr_windows.specs.declared.calls.moving.WindowMove.TheVariants.{Screen, Surface}
-use Rattle.scr_windows.specs.DeskViews.{WindowView, DeskView, IsWindow, AreFrames, IsDesk, IsThere, window_at, no_window, no_frame}
-use Rattle.scr_windows.specs.Sheets.{size_on}
+use Rattle.scr_windows.specs.DeskViews.{WindowView, DeskView, IsWindow, AreFrames, IsDesk, IsThere, window_at, no_window, no_frame, size_on}
 use Rattle.scr_windows.specs.Code.Families.{IsNear, IsNearFrame, IsNearShift, IsShift, descends, family_frame, from_parent, family_shifted, link_of}
 use Rattle.scr_windows.proofs.DeskLaws.{Reads, reads_window, here_too, placed, length_map, frame_of}
 use Rattle.scr_windows.proofs.FrameLaws.{map_reframed, reframed, reframed_more, was_found}
@@ -66,8 +65,6 @@ family_is_desk d i shift h l s =
       size = h.size;
       made = h.made;
       surfaces = h.surfaces;
-      sheets = h.sheets;
-      given = h.given;
       windows = All-map IsWindow (reframed turn) d.windows (λ k e b. window_turned (get_or d.windows k e) (descends (map link_of d.windows) number (length d.windows) (get_or d.windows k e).frame.number) shift (h.windows k e b));
       frames = subst P (sym whole) after;
     }

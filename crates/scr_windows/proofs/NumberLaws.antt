@@ -1,4 +1,4 @@
--- Where the one of a number stands among things by ascending numbers: windows and surfaces.
+-- Where the one of a number stands among things by ascending numbers.
 use Rattle.std.proofs.Common.{◌≡◌, ◌≢◌, ◌⊎◌, inl, inr, ℕ, ◌<◌, ◌≤◌, sym, subst, ap, ◌∙◌, refl, arith, List, [], ◌∷◌, zero, suc, length, map, get_or, None, Some, Bool, true, false, cond, ltb, ◌==◌}
 use Rattle.std.specs.Prelude.{filter}
 use Rattle.std.specs.List.{AllPairs, position, position_or_len}
@@ -59,6 +59,14 @@ equal a b h = grind (arith, nat_tests)
 pub differs : (a b : ℕ) → (a == b) ≡ false → a ≢ b
 differs a b h = λ e. (let z : ⊥ = grind (arith, nat_tests) in z)
 
+-- a number is one or another
+pub is_or_not : (a b : ℕ) → ((a == b) ≡ true) ⊎ ((a == b) ≡ false)
+is_or_not a b = split (a == b)
+  where
+    split : (t : Bool) → (t ≡ true) ⊎ (t ≡ false)
+    split true = inl refl
+    split false = inr refl
+
 none : (k m : ℕ) → k ≡ m → cond (ltb k m) (Some k) None ≡ None
 none k m e = ap (λ b. cond b (Some k) None) (same k m e)
   where
@@ -101,16 +109,6 @@ position_of {X} n xs number k d up l e =
     let p : X → Bool = λ x. n x == number in
     let first : position_or_len p xs ≡ k = position_or_len_is p xs k d (omega arith) (λ j b. (let less = up j k d b l in is_not number (n (get_or xs j d)) (λ same. (let z : ⊥ = omega (arith, less, same, e) in z)))) (λ _. is_it number _ e) in
     some (position_or_len p xs) (length xs) k first l
-
--- where one has the number, the search ends at it
-pub ends_there : {X : Type 0} (n : X → ℕ) (xs : List X) (number i k : ℕ) (d : X) → Rises n xs → IsEnd n number xs i → k < length xs → n (get_or xs k d) ≡ number → (i < length xs) × (n (get_or xs i d) ≡ number)
-ends_there n xs number i k d up h l e = elim (less_or_from i k) [
-  | inl b ↦ absurd (let less = before number _ (h.0 k d (omega arith) b) in omega (arith, less, e))
-  | inr from ↦ (let at : i < length xs = omega arith in
-      let low = not_before number _ (h.1 i d (omega arith) at) in
-      let high = rises_to n xs up i k d from l in
-      (at, omega (arith, low, high, e)))
-]
 
 -- what code reads at an index
 pub read_number : {X Y : Type 0} (n : X → ℕ) (m : Y → ℕ) (g : X → Y) → ((x : X) → m (g x) ≡ n x) → (xs : List X) (i : ℕ) (x d : X) (y : Y) → i < length xs → x ≡ get_or xs i x → y ≡ g x → n (get_or xs i d) ≡ m y

@@ -11,24 +11,22 @@ use Rattle.scr_cells.specs.CellViews.{CellView, blank_cell}
 use Rattle.scr_cells.specs.Grids.{GridLaws, GridView, grid_of, grid_with_run}
 use Rattle.scr_windows.specs.declared.surfaces.areas.Area.{Area}
 use Rattle.scr_windows.specs.declared.frames.Frame.{Frame}
-use Rattle.scr_windows.specs.declared.sheets.Sheet.{Sheet}
 use Rattle.scr_windows.specs.Surfaces.SurfaceLaws.{SurfaceLaws}
 use Rattle.scr_windows.specs.Surfaces.SurfaceViews.{SurfaceView, IsSurface, IsSurfaceSize, inside_at, resized_surface}
-use Rattle.scr_windows.specs.Sheets.{no_sheet, size_on, with_surface}
-use Rattle.scr_windows.specs.DeskViews.{WindowView, DeskView, HasOwn, IsWindow, IsPlaced, IsChild, IsInsideOnScreen, AreFrames, IsDesk, no_frame, no_window, surface_at, window_at}
+use Rattle.scr_windows.specs.DeskViews.{WindowView, DeskView, IsWindow, IsPlaced, IsChild, IsInsideOnScreen, AreFrames, IsDesk, no_frame, no_surface, no_window, size_on, surface_at, window_at}
 use Rattle.scr_windows.specs.Changes.{with_window}
 use Rattle.scr_windows.specs.Code.NewFrames.{IsRootPlace}
 use Rattle.scr_windows.specs.Calls.Making.{part_of}
 use Rattle.scr_windows.specs.Calls.Removing.{has_children, is_number}
 use Rattle.scr_windows.specs.Calls.Resizing.{ends_inside, nearest, resized, whole_area, with_root_size}
-use Rattle.scr_windows.proofs.DeskLaws.{Draws, Finds, Reads, desk_ascends, frame_number, frame_path, here_too, reads_window, sheet_path, surface_path, frame_of, get_or_any, length_map, placed}
+use Rattle.scr_windows.proofs.DeskLaws.{Draws, Reads, frame_number, frame_path, here_too, reads_window, surface_path, frame_of, get_or_any, length_map, placed}
 use Rattle.scr_windows.proofs.ChildLaws.{part_tells}
 use Rattle.scr_windows.proofs.FilledLaws.{grid_same}
-use Rattle.scr_windows.proofs.LawLaws.{child_of, one_index}
-use Rattle.scr_windows.proofs.NumberLaws.{differs, equal}
+use Rattle.scr_windows.proofs.FrameLaws.{own_kept}
+use Rattle.scr_windows.proofs.LawLaws.{child_of}
+use Rattle.scr_windows.proofs.NumberLaws.{differs, equal, is_or_not}
 use Rattle.scr_windows.proofs.RemovingLaws.{HasParent, alone_desk, childless}
 use Rattle.scr_windows.proofs.RunLaws.{surface_of, whole_of}
-use Rattle.scr_windows.proofs.SheetLaws.{all_put, is_or_not, put_other, put_there, sheets_put, surface_put}
 
 -- the cells that are kept, of the rows up to one
 abbrev pub kept_at : SurfaceView → Area → ℕ → CellView → ℕ → ℕ → CellView
@@ -103,14 +101,14 @@ parent_still frames i f g same has apart = by g.parent has apart
 
 -- a frame that changes, of a window without subwindows
 frame_changed : (rows columns : ℕ) (sizes new_sizes : ℕ → ℕ × ℕ) (made : ℕ) (frames : List Frame) (i : ℕ) (f : Frame) → AreFrames rows columns sizes made frames → i < length frames
-    → f.number ≡ (get_or frames i no_frame).number → HasOwn f → IsPlaced rows columns new_sizes f → ((k : ℕ) → k < length frames → k ≢ i → IsPlaced rows columns new_sizes (get_or frames k no_frame))
+    → f.number ≡ (get_or frames i no_frame).number → f.parent ≡ (get_or frames i no_frame).parent → f.surface ≡ (get_or frames i no_frame).surface → IsPlaced rows columns new_sizes f → ((k : ℕ) → k < length frames → k ≢ i → IsPlaced rows columns new_sizes (get_or frames k no_frame))
     → HasParent frames f → All (λ (g : Frame). is_number f.number g.parent ≡ false) frames → AreFrames rows columns new_sizes made (slice_set frames i f)
-frame_changed rows columns sizes new_sizes made frames i f h l same own on others parent alone = record {
+frame_changed rows columns sizes new_sizes made frames i f h l same same_parent same_surface on others parent alone = record {
   few = omega (arith, length-set frames i f, h.few);
   placed = λ k d b. subst (IsPlaced rows columns new_sizes) (sym (get_or_any (slice_set frames i f) k d no_frame b)) (place_of k (omega (arith, length-set frames i f, b)));
   numbers = All-set (λ (g : Frame). g.number ≤ made) frames i f (omega (arith, same, h.numbers i no_frame l)) h.numbers;
   ascending = λ a b less m. omega (arith, number_of_frame a, number_of_frame b, h.ascending a b less (omega (arith, length-set frames i f, m)));
-  roots = All-set HasOwn frames i f own h.roots;
+  own = own_kept frames (slice_set frames i f) (length-set frames i f) (λ k b. kept (Option ℕ) (λ (x : Frame). x.parent) same_parent k) (λ j k a b e. sym (kept ℕ (λ (x : Frame). x.surface) same_surface j) ∙ e ∙ kept ℕ (λ (x : Frame). x.surface) same_surface k) h.own;
   parents = λ k d b. subst (HasParent (slice_set frames i f)) (sym (get_or_any (slice_set frames i f) k d no_frame b)) (parent_of k (omega (arith, length-set frames i f, b)));
 }
   where
@@ -126,11 +124,15 @@ frame_changed rows columns sizes new_sizes made frames i f h l same own on other
       | inr t ↦ subst (IsPlaced rows columns new_sizes) (sym (elsewhere k (differs k i t))) (others k b (differs k i t))
     ]
 
-    number_of_frame : (k : ℕ) → (get_or (slice_set frames i f) k no_frame).number ≡ (get_or frames k no_frame).number
-    number_of_frame k = elim (is_or_not k i) [
-      | inl t ↦ (let P : ℕ → Type 0 = λ n. (get_or (slice_set frames i f) n no_frame).number ≡ (get_or frames n no_frame).number in subst P (sym (equal k i t)) (ap frame_number there ∙ same))
-      | inr t ↦ ap frame_number (elsewhere k (differs k i t))
+    -- what is the same of the frame that changes is the same of all
+    kept : (X : Type 0) (g : Frame → X) → g f ≡ g (get_or frames i no_frame) → (k : ℕ) → g (get_or (slice_set frames i f) k no_frame) ≡ g (get_or frames k no_frame)
+    kept X g e k = elim (is_or_not k i) [
+      | inl t ↦ (let P : ℕ → Type 0 = λ n. g (get_or (slice_set frames i f) n no_frame) ≡ g (get_or frames n no_frame) in subst P (sym (equal k i t)) (ap g there ∙ e))
+      | inr t ↦ ap g (elsewhere k (differs k i t))
     ]
+
+    number_of_frame : (k : ℕ) → (get_or (slice_set frames i f) k no_frame).number ≡ (get_or frames k no_frame).number
+    number_of_frame k = kept ℕ frame_number same k
 
     -- the frame's own parent has a lower number
     own_parent : (o : Option ℕ) → MatchOption o (Unit {0}) (λ number. (k : ℕ) × (k < length frames) × ((get_or frames k no_frame).number ≡ number) × IsChild f (get_or frames k no_frame)) → (n : ℕ) → o ≡ Some n → n ≢ f.number
@@ -160,34 +162,24 @@ unfolding resized_surface
 resized_columns surface area rows columns cell = refl
 
 -- the frames of a desk with one window at another size
-window_changed : (d : DeskView) (sheets : List Sheet) (i : ℕ) (w : WindowView) → IsDesk d → i < length d.windows → has_children (window_at d i).frame.number d.windows ≡ false → w.frame.number ≡ (window_at d i).frame.number → HasOwn w.frame
-    → IsPlaced d.rows d.columns (size_on sheets) w.frame → ((k : ℕ) → k < length d.windows → k ≢ i → size_on sheets (window_at d k).frame.surface ≡ size_on d.surfaces (window_at d k).frame.surface) → HasParent (map frame_of d.windows) w.frame
-    → AreFrames d.rows d.columns (size_on sheets) d.made (map frame_of (slice_set d.windows i w))
-window_changed d sheets i w h l alone same own on sizes parent =
+window_changed : (d : DeskView) (surfaces : List SurfaceView) (i : ℕ) (w : WindowView) → IsDesk d → i < length d.windows → has_children (window_at d i).frame.number d.windows ≡ false → w.frame.number ≡ (window_at d i).frame.number → w.frame.parent ≡ (window_at d i).frame.parent → w.frame.surface ≡ (window_at d i).frame.surface
+    → IsPlaced d.rows d.columns (size_on surfaces) w.frame → ((k : ℕ) → k < length d.windows → k ≢ i → size_on surfaces (window_at d k).frame.surface ≡ size_on d.surfaces (window_at d k).frame.surface) → HasParent (map frame_of d.windows) w.frame
+    → AreFrames d.rows d.columns (size_on surfaces) d.made (map frame_of (slice_set d.windows i w))
+window_changed d surfaces i w h l alone same same_parent same_surface on sizes parent =
     let frames : List Frame = map frame_of d.windows in
     let many : length frames ≡ length d.windows = length_map frame_of d.windows in
     let at : get_or frames i no_frame ≡ (window_at d i).frame = get_or-map frame_of d.windows i no_window no_frame l in
-    let P : List Frame → Type 0 = λ fs. AreFrames d.rows d.columns (size_on sheets) d.made fs in
+    let P : List Frame → Type 0 = λ fs. AreFrames d.rows d.columns (size_on surfaces) d.made fs in
     let Q : ℕ → Type 0 = λ n. All (λ (g : Frame). is_number n g.parent ≡ false) frames in
     subst P (sym (map-set frame_of d.windows i w))
-    (frame_changed d.rows d.columns (size_on d.surfaces) (size_on sheets) d.made frames i w.frame h.frames (omega (arith, many)) (same ∙ sym (ap frame_number at)) own on
+    (frame_changed d.rows d.columns (size_on d.surfaces) (size_on surfaces) d.made frames i w.frame h.frames (omega (arith, many)) (same ∙ sym (ap frame_number at)) (same_parent ∙ sym (ap (λ (f : Frame). f.parent) at)) (same_surface ∙ sym (ap (λ (f : Frame). f.surface) at)) on
     (λ k b other. still (window_at d k).frame (get_or frames k no_frame) (get_or-map frame_of d.windows k no_window no_frame (omega (arith, many))) (sizes k (omega (arith, many)) other) (h.frames.placed k no_frame b)) parent
     (subst Q (sym same) (childless d (window_at d i).frame.number alone)))
   where
-    still : (g f : Frame) → f ≡ g → size_on sheets g.surface ≡ size_on d.surfaces g.surface → IsPlaced d.rows d.columns (size_on d.surfaces) f → IsPlaced d.rows d.columns (size_on sheets) f
+    still : (g f : Frame) → f ≡ g → size_on surfaces g.surface ≡ size_on d.surfaces g.surface → IsPlaced d.rows d.columns (size_on d.surfaces) f → IsPlaced d.rows d.columns (size_on surfaces) f
     still g f e size p =
-        let here : size_on sheets f.surface ≡ size_on d.surfaces f.surface = ap (λ (x : Frame). size_on sheets x.surface) e ∙ size ∙ ap (λ (x : Frame). size_on d.surfaces x.surface) (sym e) in
+        let here : size_on surfaces f.surface ≡ size_on d.surfaces f.surface = ap (λ (x : Frame). size_on surfaces x.surface) e ∙ size ∙ ap (λ (x : Frame). size_on d.surfaces x.surface) (sym e) in
         record { some_rows = p.some_rows; some_columns = p.some_columns; below = omega (arith, p.below, ap (λ (s : ℕ × ℕ). s.0) here); right = omega (arith, p.right, ap (λ (s : ℕ × ℕ). s.1) here); origin = p.origin }
-
--- a window that is not a subwindow is on the surface that was made with it
-pub own_surface : (d : DeskView) (i : ℕ) → IsDesk d → i < length d.windows → (window_at d i).frame.parent ≡ None → (window_at d i).frame.surface ≡ (window_at d i).frame.number
-own_surface d i h l root =
-    let frames : List Frame = map frame_of d.windows in
-    let many : length frames ≡ length d.windows = length_map frame_of d.windows in
-    let at : get_or frames i no_frame ≡ (window_at d i).frame = get_or-map frame_of d.windows i no_window no_frame l in
-    let O : Frame → Type 0 = λ f. HasOwn f in
-    let M : Option ℕ → Type 0 = λ o. MatchOption o ((window_at d i).frame.surface ≡ (window_at d i).frame.number) (λ _. Unit {0}) in
-    subst M root (subst O at (h.frames.roots i no_frame (omega (arith, many))))
 
 -- a window with cells of its own at another size
 root_is_desk : SurfaceLaws → (d : DeskView) (i rows columns : ℕ) → IsDesk d → i < length d.windows → (window_at d i).frame.parent ≡ None → has_children (window_at d i).frame.number d.windows ≡ false
@@ -200,58 +192,45 @@ root_is_desk laws d i rows columns h l root alone on =
     let frames : List Frame = map frame_of d.windows in
     let many : length frames ≡ length d.windows = length_map frame_of d.windows in
     let at : get_or frames i no_frame ≡ w.frame = get_or-map frame_of d.windows i no_window no_frame l in
-    let sheets : List Sheet = with_surface w.frame.surface new d.surfaces in
-    let O : Frame → Type 0 = λ f. HasOwn f in
-    let has_own : HasOwn w.frame = subst O at (h.frames.roots i no_frame (omega (arith, many))) in
-    let own : w.frame.surface ≡ w.frame.number = own_surface d i h l root in
-    let there : surface_at (record d { surfaces = sheets }) w.frame.surface ≡ new = put_there d.surfaces w.frame.surface new p.surface in
-    let tall : (size_on sheets w.frame.surface).0 ≡ rows = ap (λ (v : SurfaceView). v.rows) there ∙ resized_rows s w.frame.area rows columns w.state.background in
-    let wide : (size_on sheets w.frame.surface).1 ≡ columns = ap (λ (v : SurfaceView). v.columns) there ∙ resized_columns s w.frame.area rows columns w.state.background in
+    let surfaces : List SurfaceView = slice_set d.surfaces w.frame.surface new in
+    let there : get_or surfaces w.frame.surface no_surface ≡ new = get_or-set_same d.surfaces w.frame.surface new no_surface p.surface in
+    let tall : (size_on surfaces w.frame.surface).0 ≡ rows = ap (λ (v : SurfaceView). v.rows) there ∙ resized_rows s w.frame.area rows columns w.state.background in
+    let wide : (size_on surfaces w.frame.surface).1 ≡ columns = ap (λ (v : SurfaceView). v.columns) there ∙ resized_columns s w.frame.area rows columns w.state.background in
     let N : Option ℕ → Type 0 = λ o. MatchOption o (Unit {0}) (λ number. (k : ℕ) × (k < length frames) × ((get_or frames k no_frame).number ≡ number) × IsChild (record w.frame { area = whole_area rows columns }) (get_or frames k no_frame)) in
     record {
       size = h.size;
       made = h.made;
-      surfaces = all_put (λ (sheet : Sheet). IsSurface sheet.surface) d.surfaces w.frame.surface new (λ sheet _. laws.resized s w.frame.area rows columns w.state.background on.size) h.surfaces;
-      sheets = sheets_put d.surfaces w.frame.surface new h.sheets;
-      given = all_put (λ (sheet : Sheet). sheet.number ≤ d.made) d.surfaces w.frame.surface new (λ sheet b. b) h.given;
+      surfaces = All-set IsSurface d.surfaces w.frame.surface new (laws.resized s w.frame.area rows columns w.state.background on.size) h.surfaces;
       windows = All-set IsWindow d.windows i _ (resized_is_window (whole_area rows columns) w p.window on.size.some_rows on.size.some_columns) h.windows;
-      frames = window_changed d sheets i (resized (whole_area rows columns) w) h l alone refl has_own
+      frames = window_changed d surfaces i (resized (whole_area rows columns) w) h l alone refl refl refl
           (record { some_rows = on.size.some_rows; some_columns = on.size.some_columns; below = omega (arith, tall); right = omega (arith, wide); origin = on.on_screen })
-          (λ k b other. ap (λ (v : SurfaceView). (v.rows, v.columns)) (put_other d.surfaces w.frame.surface (window_at d k).frame.surface new (λ e.
-          alone_desk d w.frame.number h alone k b (λ same. other (one_index d (desk_ascends d h) k i b l same)) (e ∙ own))))
+          (λ k b other. ap (λ (v : SurfaceView). (v.rows, v.columns)) (get_or-set_other d.surfaces w.frame.surface (window_at d k).frame.surface new no_surface (alone_desk d i h l root alone k b other)))
           (subst N (sym root) tt);
     }
 
 -- the desk after a window with cells of its own got another size
-pub root_path : (d old : DeskView) (i k : ℕ) (w m : WindowView) (frame : Frame) (sheet new : Sheet) (t : SurfaceView) (rows columns : ℕ)
-    → Draws d old i w frame → Finds d frame.surface k sheet → m ≡ resized (whole_area rows columns) w → t ≡ resized_surface sheet.surface frame.area rows columns w.state.background → new ≡ record sheet { surface = t }
-    → record d { surfaces = slice_set d.surfaces k new; windows = slice_set d.windows i m } ≡ with_root_size d i rows columns
-root_path d old i k w m frame sheet new t rows columns h r m_is t_is new_is =
-    let here : i < length d.windows = here_too d old i h.is h.here in
-    let at : w ≡ window_at d i = reads_window d i w h.window here in
+pub root_path : (d old : DeskView) (i : ℕ) (w m : WindowView) (frame : Frame) (s t : SurfaceView) (rows columns : ℕ)
+    → Draws d old i w frame → Reads d.surfaces frame.surface s → m ≡ resized (whole_area rows columns) w → t ≡ resized_surface s frame.area rows columns w.state.background
+    → record d { surfaces = slice_set d.surfaces frame.surface t; windows = slice_set d.windows i m } ≡ with_root_size d i rows columns
+root_path d old i w m frame s t rows columns h r m_is t_is =
+    let at : w ≡ window_at d i = reads_window d i w h.window (here_too d old i h.is h.here) in
     let frames : frame ≡ (window_at d i).frame = frame_path d old i w frame h in
-    let found : sheet ≡ get_or d.surfaces k no_sheet = sheet_path d frame.surface k sheet r in
-    let surface : sheet.surface ≡ surface_at d (window_at d i).frame.surface = surface_path d old i k w frame sheet h r in
+    let surface : s ≡ surface_at d (window_at d i).frame.surface = surface_path d old i w frame s h r in
     let cells : t ≡ resized_surface (surface_at d (window_at d i).frame.surface) (window_at d i).frame.area rows columns (window_at d i).state.background
     = t_is ∙ (λ j. resized_surface (surface j) (frames j).area rows columns (at j).state.background) in
-    let sheets = surface_put d.surfaces frame.surface k t new h.desk.sheets r.within r.number_is (new_is ∙ (λ j. record (found j) { surface = t })) ∙ (λ j. with_surface (frames j).surface (cells j) d.surfaces) in
     let windows = m_is ∙ ap (resized (whole_area rows columns)) at in
-    (λ j. record d { surfaces = sheets j; windows = slice_set d.windows i (windows j) })
+    (λ j. record d { surfaces = slice_set d.surfaces (frames j).surface (cells j); windows = slice_set d.windows i (windows j) })
 
 -- what the code knows of the window that gets another size
-pub root_set : SurfaceLaws → (d old : DeskView) (i k : ℕ) (w m : WindowView) (frame : Frame) (sheet new : Sheet) (t : SurfaceView) (rows columns : ℕ)
-    → Draws d old i w frame → Finds d frame.surface k sheet → m ≡ resized (whole_area rows columns) w → t ≡ resized_surface sheet.surface frame.area rows columns w.state.background → new ≡ record sheet { surface = t }
+pub root_set : SurfaceLaws → (d old : DeskView) (i : ℕ) (w m : WindowView) (frame : Frame) (s t : SurfaceView) (rows columns : ℕ)
+    → Draws d old i w frame → Reads d.surfaces frame.surface s → m ≡ resized (whole_area rows columns) w → t ≡ resized_surface s frame.area rows columns w.state.background
     → (window_at old i).frame.parent ≡ None → has_children (window_at old i).frame.number old.windows ≡ false → IsRootPlace old rows columns (window_at old i).frame.origin
-    → IsDesk (record d { surfaces = slice_set d.surfaces k new; windows = slice_set d.windows i m })
-root_set laws d old i k w m frame sheet new t rows columns h r m_is t_is new_is root alone on =
+    → IsDesk (record d { surfaces = slice_set d.surfaces frame.surface t; windows = slice_set d.windows i m })
+root_set laws d old i w m frame s t rows columns h r m_is t_is root alone on =
     let P : DeskView → Type 0 = λ v. IsDesk v in
     let Q : DeskView → Type 0 = λ v. ((window_at v i).frame.parent ≡ None) × (has_children (window_at v i).frame.number v.windows ≡ false) × IsRootPlace v rows columns (window_at v i).frame.origin in
     let known = subst Q (sym h.is) (root, alone, on) in
-    subst P (sym (root_path d old i k w m frame sheet new t rows columns h r m_is t_is new_is)) (root_is_desk laws d i rows columns h.desk (here_too d old i h.is h.here) known.0 known.1 known.2)
-
--- two readings of one element
-pub read_twice : {X : Type 0} (xs : List X) (k : ℕ) (x y : X) → k < length xs → x ≡ get_or xs k x → y ≡ get_or xs k y → x ≡ y
-read_twice xs k x y l a b = a ∙ get_or_any xs k x y l ∙ sym b
+    subst P (sym (root_path d old i w m frame s t rows columns h r m_is t_is)) (root_is_desk laws d i rows columns h.desk (here_too d old i h.is h.here) known.0 known.1 known.2)
 
 -- what ends inside its parent's place on the screen
 ending : (rows columns : ℕ) (o a : Option (ℕ × ℕ)) (old area within : Area) → IsInsideOnScreen o old a within → ends_inside o area a within ≡ true
@@ -288,8 +267,6 @@ sub_is_desk d i k area h l m parent alone on =
     let many : length frames ≡ length d.windows = length_map frame_of d.windows in
     let at : get_or frames i no_frame ≡ w.frame = get_or-map frame_of d.windows i no_window no_frame l in
     let above : get_or frames k no_frame ≡ (window_at d k).frame = get_or-map frame_of d.windows k no_window no_frame m in
-    let O : Frame → Type 0 = λ f. HasOwn f in
-    let has_own : HasOwn w.frame = subst O at (h.frames.roots i no_frame (omega (arith, many))) in
     let child : IsChild w.frame (window_at d k).frame = child_of d (window_at d k).frame.number i k h l m parent refl in
     let ends = ending d.rows d.columns w.frame.origin (window_at d k).frame.origin w.frame.area area (window_at d k).frame.area child.on_screen on.on_screen q.origin in
     let frame : Frame = record w.frame { area = area } in
@@ -301,10 +278,8 @@ sub_is_desk d i k area h l m parent alone on =
       size = h.size;
       made = h.made;
       surfaces = h.surfaces;
-      sheets = h.sheets;
-      given = h.given;
       windows = All-set IsWindow d.windows i _ (resized_is_window area w p.window on.some_rows on.some_columns) h.windows;
-      frames = window_changed d d.surfaces i (resized area w) h l alone refl has_own
+      frames = window_changed d d.surfaces i (resized area w) h l alone refl refl refl
           (record { some_rows = on.some_rows; some_columns = on.some_columns; below = omega (arith, on.below, q.part.below, ap (λ (s : ℕ × ℕ). s.0) sizes); right = omega (arith, on.right, q.part.right, ap (λ (s : ℕ × ℕ). s.1) sizes); origin = ends.0 })
           (λ n b other. refl)
           (subst N (sym parent) (k, omega (arith, many), ap frame_number above, subst C (sym above) mine));

@@ -8,10 +8,11 @@ use Rattle.scr_windows.specs.declared.surfaces.areas.Area.{Area}
 use Rattle.scr_windows.specs.declared.frames.Frame.{Frame}
 use Rattle.scr_windows.specs.declared.calls.moving.WindowMove.{WindowMove}
 use Rattle.scr_windows.specs.declared.calls.moving.WindowMove.TheVariants.{Screen, Surface}
-use Rattle.scr_windows.specs.DeskViews.{HasOwn, IsPlaced, IsChild, IsInsideOnScreen, AreFrames, no_frame}
+use Rattle.scr_windows.specs.DeskViews.{IsPlaced, IsChild, IsInsideOnScreen, AreFrames, no_frame}
 use Rattle.scr_windows.specs.Calls.Moving.{area_shifted, origin_shifted, shifted}
 use Rattle.scr_windows.specs.Code.Families.{family_frame}
 use Rattle.scr_windows.proofs.DeskLaws.{length_map}
+use Rattle.scr_windows.proofs.FrameLaws.{own_kept}
 use Rattle.scr_windows.proofs.FamilyLaws.{frame_at, Ascends, Family, HasParent, Within, child_family, family_within, frame_link, one_index}
 
 -- a frame that may have been shifted
@@ -191,10 +192,10 @@ placed_turned rows columns sizes shift f root false begins ends w p = p
 placed_turned rows columns sizes shift f root true begins ends w p = shifted_placed rows columns sizes shift f root begins ends (w refl) p
 
 -- a window that moves is on the surface that it was on
-own_turned : (b : Bool) (shift : WindowMove) (f : Frame) → HasOwn f → HasOwn (turned b shift f)
-own_turned false shift f h = h
-own_turned true (Screen from to) f h = h
-own_turned true (Surface from to) f h = h
+same_surface : (b : Bool) (shift : WindowMove) (f : Frame) → (turned b shift f).surface ≡ f.surface
+same_surface false shift f = refl
+same_surface true (Screen from to) f = refl
+same_surface true (Surface from to) f = refl
 
 pub is_equal : (a b : ℕ) → (a == b) ≡ true → a ≡ b
 is_equal a b h = grind (arith, nat_tests)
@@ -218,7 +219,7 @@ frames_moved rows columns sizes made frames i shift h l begins fits stays = reco
       (placed_turned rows columns sizes shift (frame_at frames k) (frame_at frames i) (is_family frames i k) begins ends (within k (here k b)) (h.placed k no_frame (here k b)))));
   numbers = All-from_get_or (λ (f : Frame). f.number ≤ made) (after frames i shift) no_frame (λ k b. omega (arith, number k (here k b), h.numbers k no_frame (here k b)));
   ascending = (λ a b less in'. omega (arith, number a (omega (arith, here b in')), number b (here b in'), h.ascending a b less (here b in')));
-  roots = All-from_get_or HasOwn (after frames i shift) no_frame (λ k b. (let P : Frame → Type 0 = λ f. HasOwn f in subst P (sym (now k (here k b))) (own_turned (is_family frames i k) shift (frame_at frames k) (h.roots k no_frame (here k b)))));
+  own = own_kept frames (after frames i shift) (length_map (turn frames i shift) frames) (λ k b. ap (λ (f : Frame). f.parent) (now k b) ∙ same_parent (is_family frames i k) shift (frame_at frames k)) (λ j k a b same. sym (surface j a) ∙ same ∙ surface k b) h.own;
   parents = All-from_get_or (HasParent (after frames i shift)) (after frames i shift) no_frame (λ k b. (let P : Frame → Type 0 = λ f. HasParent (after frames i shift) f in subst P (sym (now k (here k b))) (parent k (here k b))));
 }
   where
@@ -233,6 +234,9 @@ frames_moved rows columns sizes made frames i shift h l begins fits stays = reco
 
     number : (k : ℕ) → k < length frames → (get_or (after frames i shift) k no_frame).number ≡ (frame_at frames k).number
     number k b = ap (λ (f : Frame). f.number) (now k b) ∙ same_number (is_family frames i k) shift (frame_at frames k)
+
+    surface : (k : ℕ) → k < length frames → (get_or (after frames i shift) k no_frame).surface ≡ (frame_at frames k).surface
+    surface k b = ap (λ (f : Frame). f.surface) (now k b) ∙ same_surface (is_family frames i k) shift (frame_at frames k)
 
     within : (k : ℕ) → k < length frames → is_family frames i k ≡ true → Within (frame_at frames k) (frame_at frames i)
     within k b t = family_within frames i h.ascending (λ m c. h.parents m no_frame c) l k b t

@@ -13,13 +13,11 @@ use Rattle.scr_cells.specs.MadeRuns.{before, made_while}
 use Rattle.scr_windows.specs.declared.faults.Added.{Added}
 use Rattle.scr_windows.specs.declared.faults.Added.TheVariants.{Done}
 use Rattle.scr_windows.specs.declared.frames.WindowState.{WindowState}
-use Rattle.scr_windows.specs.declared.sheets.Sheet.{Sheet}
 use Rattle.scr_windows.specs.declared.surfaces.areas.Area.{Area}
 use Rattle.scr_windows.specs.Surfaces.Formulas.{run_put}
 use Rattle.scr_windows.specs.Surfaces.SurfaceLaws.{SurfaceLaws}
 use Rattle.scr_windows.specs.Surfaces.SurfaceViews.{SurfaceView, IsPart, IsSurface, filled, inside_at, is_inside}
-use Rattle.scr_windows.specs.DeskViews.{DeskView, IsThere, WindowView, no_attributes, no_window, surface_at, window_at}
-use Rattle.scr_windows.specs.Sheets.{with_surface}
+use Rattle.scr_windows.specs.DeskViews.{DeskView, IsThere, WindowView, no_attributes, no_surface, no_window, surface_at, window_at}
 use Rattle.scr_windows.specs.Changes.{fill, marked, marked_lines, write}
 use Rattle.scr_windows.specs.Calls.Adding.{cell_added, code_added, character_added, gone_to, line_begun, text_added, written_form}
 use Rattle.scr_windows.specs.Calls.Settings.{cursor_at}
@@ -29,7 +27,6 @@ use Rattle.scr_windows.proofs.AddedLaws.{then_added}
 use Rattle.scr_windows.proofs.ChangeLaws.{run_at}
 use Rattle.scr_windows.proofs.FilledLaws.{map_range}
 use Rattle.scr_windows.proofs.RunLaws.{run_of, surface_of, then_run, unchanged}
-use Rattle.scr_windows.proofs.SheetLaws.{put_there}
 
 -- ---- the cells of the characters that a text begins with
 
@@ -106,17 +103,6 @@ cond_rest : {X : Type 0} (t : Bool) (x y z v : X) → v ≡ cond t y z → cond 
 cond_rest true x y z v e = refl
 cond_rest false x y z v e = e
 
-with_twice : (sheets : List Sheet) (number : ℕ) (s t : SurfaceView) → with_surface number t (with_surface number s sheets) ≡ with_surface number t sheets
-with_twice [] number s t = refl
-with_twice (sheet ∷ sheets) number s t =
-    let here = one (sheet.number == number) refl in
-    (λ j. here j ∷ with_twice sheets number s t j)
-  where
-    one : (b : Bool) → (sheet.number == number) ≡ b
-        → cond ((cond b (record sheet { surface = s }) sheet).number == number) (record (cond b (record sheet { surface = s }) sheet) { surface = t }) (cond b (record sheet { surface = s }) sheet) ≡ cond b (record sheet { surface = t }) sheet
-    one true e = ap (λ u. cond u (record sheet { surface = t }) (record sheet { surface = s })) e
-    one false e = ap (λ u. cond u (record sheet { surface = t }) sheet) e
-
 filled_twice : SurfaceLaws → (s : SurfaceView) (area : Area) (f g : ℕ → ℕ → CellView) → IsSurface s → filled (filled s area f) area g ≡ filled s area g
 filled_twice laws s area f g h =
     let mid : SurfaceView = filled s area f in
@@ -174,7 +160,7 @@ moved w column = record w { state = cursor_at (w.state.cursor.0, column) w.state
 abbrev drawn_desk : DeskView → ℕ → WindowView → ℕ → ((ℕ → ℕ → CellView) → ℕ → ℕ → CellView) → DeskView
 drawn_desk d i w column f =
     record d {
-      surfaces = with_surface w.frame.surface (filled (surface_at d w.frame.surface) w.frame.area (f (inside_at (surface_at d w.frame.surface) w.frame.area))) d.surfaces;
+      surfaces = slice_set d.surfaces w.frame.surface (filled (surface_at d w.frame.surface) w.frame.area (f (inside_at (surface_at d w.frame.surface) w.frame.area)));
       windows = slice_set d.windows i (moved w column);
     }
 
@@ -247,7 +233,7 @@ first_laid laws d i byte value here is room cell =
     let same : filled s w.frame.area (run_put y x (x + 1) (written_form byte no_attributes w.state) (inside_at s w.frame.area)) ≡ filled s w.frame.area (row_laid y x (x + 1) value (inside_at s w.frame.area))
     = laws.filled_same s w.frame.area _ _ (λ r c b k. alike y x r c (written_form byte no_attributes w.state) (inside_at s w.frame.area r c) cell) in
     ascii_is_added d i byte is ∙ character_put d i byte w here refl room
-    ∙ (λ j. (record d { surfaces = with_surface w.frame.surface (same j) d.surfaces; windows = slice_set d.windows i (moved w (x + 1)) }, Done))
+    ∙ (λ j. (record d { surfaces = slice_set d.surfaces w.frame.surface (same j); windows = slice_set d.windows i (moved w (x + 1)) }, Done))
   where
     alike : (y x r c : ℕ) (cell was : CellView) → value x ≡ cell → cond (r == y && leb x c && ltb c (x + 1)) cell was ≡ cond (r == y && leb x c && ltb c (x + 1)) (value c) was
     alike y x r c cell was e = grind (arith, nat_tests)
@@ -266,15 +252,15 @@ next_laid laws d i byte end value h is from room cell =
     let v : WindowView = moved w end in
     let here : i < length (slice_set d.windows i v) = omega (arith, h.here, length-set d.windows i v) in
     let put : (ℕ → ℕ → CellView) → ℕ → ℕ → CellView = run_put y end (end + 1) (written_form byte no_attributes w.state) in
-    let found : surface_at (laid_desk d i end value) k ≡ mid = put_there d.surfaces k mid h.surface in
-    let sheets : with_surface k (filled (surface_at (laid_desk d i end value) k) area (put (inside_at (surface_at (laid_desk d i end value) k) area))) (with_surface k mid d.surfaces)
-    ≡ with_surface k (filled s area (row_laid y x (end + 1) value (inside_at s area))) d.surfaces
-    = (λ j. with_surface k (filled (found j) area (put (inside_at (found j) area))) (with_surface k mid d.surfaces)) ∙ with_twice d.surfaces k mid _
-    ∙ ap (λ t. with_surface k t d.surfaces) (laid_more laws s area y x end value _ h.whole h.part from cell) in
+    let found : surface_at (laid_desk d i end value) k ≡ mid = get_or-set_same d.surfaces k mid no_surface h.surface in
+    let surfaces : slice_set (slice_set d.surfaces k mid) k (filled (surface_at (laid_desk d i end value) k) area (put (inside_at (surface_at (laid_desk d i end value) k) area)))
+    ≡ slice_set d.surfaces k (filled s area (row_laid y x (end + 1) value (inside_at s area)))
+    = (λ j. slice_set (slice_set d.surfaces k mid) k (filled (found j) area (put (inside_at (found j) area)))) ∙ set-set d.surfaces k mid _
+    ∙ ap (slice_set d.surfaces k) (laid_more laws s area y x end value _ h.whole h.part from cell) in
     let windows : slice_set (slice_set d.windows i v) i (moved v (end + 1)) ≡ slice_set d.windows i (moved w (end + 1))
     = set-set d.windows i v (moved v (end + 1)) ∙ ap (λ marks. slice_set d.windows i (record (moved w (end + 1)) { touched = marks })) (marks_twice y (y + 1) w.touched) in
     ascii_is_added (laid_desk d i end value) i byte is ∙ character_put (laid_desk d i end value) i byte v here (get_or-set_same d.windows i v no_window h.here) room
-    ∙ (λ j. (record d { surfaces = sheets j; windows = windows j }, Done))
+    ∙ (λ j. (record d { surfaces = surfaces j; windows = windows j }, Done))
 
 -- the characters that a text begins with, after some that were laid
 rest_laid : SurfaceLaws → (text : List ℕ) (d : DeskView) (i end : ℕ) (value : ℕ → CellView) → IsThere d i → (window_at d i).state.cursor.1 ≤ end → end + length text < (window_at d i).frame.area.columns

@@ -8,7 +8,6 @@ use Rattle.scr_windows.specs.DeskViews.{DeskView, window_at, WindowView, surface
 use Rattle.scr_cells.specs.CellViews.{CellView}
 use Rattle.scr_windows.specs.Surfaces.SurfaceViews.{SurfaceView, filled, inside_at}
 use Rattle.std.specs.List.{position, range_with_len}
-use Rattle.scr_windows.specs.Sheets.{with_surface}
 
 -- A call that allocates: it does what its definition says; or memory ran out in a call that nothing else refuses, and
 -- the desk stays.
@@ -33,13 +32,17 @@ on_window desk (Ok i) f = f i
 abbrev pub with_window : DeskView → ℕ → WindowView → DeskView
 with_window desk i window = record desk { windows = slice_set desk.windows i window }
 
+-- The desk with one surface changed.
+abbrev pub with_surface : DeskView → ℕ → SurfaceView → DeskView
+with_surface desk k surface = record desk { surfaces = slice_set desk.surfaces k surface }
+
 -- The places of a window get the cells of a formula over the window's cells before; every other place of every surface
 -- stays.
 abbrev pub fill : DeskView → ℕ → ((ℕ → ℕ → CellView) → ℕ → ℕ → CellView) → DeskView
 fill desk i f =
     let frame : Frame = (window_at desk i).frame in
     let surface : SurfaceView = surface_at desk frame.surface in
-    record desk { surfaces = with_surface frame.surface (filled surface frame.area (f (inside_at surface frame.area))) desk.surfaces }
+    with_surface desk frame.surface (filled surface frame.area (f (inside_at surface frame.area)))
 
 -- The marks with those of lines `first` up to, but not including, `end` set to `mark`.
 unfoldable pub marked_lines : ℕ → ℕ → Bool → List Bool → List Bool

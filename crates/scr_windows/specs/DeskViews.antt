@@ -1,5 +1,5 @@
 -- A desk: surfaces, and the windows on them. X/Open Curses Issue 7, 'Screens, Windows and Terminals'.
-use Rattle.std.specs.Prelude.{ℕ, Bool, true, false, ◌≡◌, ◌+◌, ◌-◌, ◌^◌, ◌<◌, ◌≤◌, List, [], ◌∷◌, length, map, replicate, None, Some, slice_index_or, MatchOption, Option, All}
+use Rattle.std.specs.Prelude.{ℕ, Bool, true, false, ◌≡◌, ◌≢◌, ◌+◌, ◌-◌, ◌^◌, ◌<◌, ◌≤◌, List, [], ◌∷◌, length, map, replicate, None, Some, slice_index_or, MatchOption, Option, All}
 use Rattle.std.specs.List.{AllPairs}
 use Rattle.scr_cells.specs.CellViews.{CellView, IsPair, blank_cell}
 use Rattle.scr_cells.specs.PictureViews.{IsSize}
@@ -7,9 +7,7 @@ use Rattle.scr_windows.specs.declared.surfaces.areas.Area.{Area}
 use Rattle.scr_windows.specs.declared.frames.Frame.{Frame}
 use Rattle.scr_windows.specs.declared.frames.WindowState.{WindowState}
 use Rattle.scr_cells.specs.declared.attributes.Attrs.{Attrs}
-use Rattle.scr_windows.specs.declared.sheets.Sheet.{Sheet}
 use Rattle.scr_windows.specs.Surfaces.SurfaceViews.{SurfaceView, IsSurface, IsPart, blank_surface}
-use Rattle.scr_windows.specs.Sheets.{AreSheets, HasSheet, surface_on, size_on}
 
 -- A window: its frame, which no drawing changes; what the calls set; and for each line whether it is touched.
 pub record WindowView : Type 0 where
@@ -17,12 +15,12 @@ pub record WindowView : Type 0 where
   pub state : WindowState
   pub touched : List Bool
 
--- The screen's size; the surfaces and windows that exist, each in ascending order of their numbers; and how many
--- windows were made after the first.
+-- The screen's size; the surfaces; the windows that exist, in ascending order of their numbers; and how many windows
+-- were made after the first. A window's frame holds the index of its surface.
 pub record DeskView : Type 0 where
   pub rows : ℕ
   pub columns : ℕ
-  pub surfaces : List Sheet
+  pub surfaces : List SurfaceView
   pub windows : List WindowView
   pub made : ℕ
 
@@ -60,9 +58,17 @@ no_window = fresh_window no_frame no_attributes 0 blank_cell
 abbrev pub window_at : DeskView → ℕ → WindowView
 window_at desk i = slice_index_or desk.windows i no_window
 
--- The surface with this number.
+-- A stand-in for a surface where there is none.
+abbrev pub no_surface : SurfaceView
+no_surface = record { rows = 0; columns = 0; lines = [] }
+
+-- The surface at index k.
 abbrev pub surface_at : DeskView → ℕ → SurfaceView
-surface_at desk number = surface_on desk.surfaces number
+surface_at desk k = slice_index_or desk.surfaces k no_surface
+
+-- The rows and columns of the surface at index k; 0 if there is none.
+abbrev pub size_on : List SurfaceView → ℕ → ℕ × ℕ
+size_on surfaces k = ((slice_index_or surfaces k no_surface).rows, (slice_index_or surfaces k no_surface).columns)
 
 -- A valid window state: cursor and region inside the window, and the number of a colour pair.
 pub record IsState (frame : Frame) (state : WindowState) : Type 0 where
@@ -104,27 +110,25 @@ pub record IsChild (frame parent : Frame) : Type 0 where
   pub right : frame.area.left + frame.area.columns ≤ parent.area.left + parent.area.columns
   pub on_screen : IsInsideOnScreen frame.origin frame.area parent.origin parent.area
 
--- A window that is not a subwindow has the surface that was made with it.
-abbrev pub HasOwn : Frame → Type 0
-HasOwn frame = MatchOption frame.parent (frame.surface ≡ frame.number) (λ _. Unit {0})
+-- A window that is not a subwindow has a surface of its own: no two of them share one.
+abbrev pub HaveOwn : Frame → Frame → Type 0
+HaveOwn frame other = frame.parent ≡ None → other.parent ≡ None → frame.surface ≢ other.surface
 
--- Valid frames: at most 1,000, in ascending order of their numbers, none above the last one given; each subwindow's
--- parent exists, and it lies inside it.
+-- Valid frames: at most 1,000, in ascending order of their numbers, none above the last one given; each window that is
+-- not a subwindow has a surface of its own; each subwindow's parent exists, and it lies inside it.
 pub record AreFrames (rows columns : ℕ) (sizes : ℕ → ℕ × ℕ) (made : ℕ) (frames : List Frame) : Type 0 where
   pub few : length frames ≤ 1000
   pub placed : All (IsPlaced rows columns sizes) frames
   pub numbers : All (λ frame. frame.number ≤ made) frames
   pub ascending : (i j : ℕ) → i < j → j < length frames → (slice_index_or frames i no_frame).number < (slice_index_or frames j no_frame).number
-  pub roots : All HasOwn frames
+  pub own : AllPairs HaveOwn frames
   pub parents : All (λ frame. MatchOption frame.parent (Unit {0}) (λ number. (k : ℕ) × (k < length frames) × ((slice_index_or frames k no_frame).number ≡ number) × IsChild frame (slice_index_or frames k no_frame))) frames
 
 -- A valid desk: a valid size, and valid surfaces, windows and frames.
 pub record IsDesk (desk : DeskView) : Type 0 where
   pub size : IsSize desk.rows desk.columns
   pub made : desk.made < 2 ^ 32
-  pub surfaces : All (λ (sheet : Sheet). IsSurface sheet.surface) desk.surfaces
-  pub sheets : AreSheets desk.surfaces
-  pub given : All (λ (sheet : Sheet). sheet.number ≤ desk.made) desk.surfaces
+  pub surfaces : All IsSurface desk.surfaces
   pub windows : All IsWindow desk.windows
   pub frames : AreFrames desk.rows desk.columns (size_on desk.surfaces) desk.made (map (λ (w : WindowView). w.frame) desk.windows)
 
@@ -137,7 +141,7 @@ first_frame rows columns = record { number = 0; surface = 0; area = record { top
 pub record IsThere (desk : DeskView) (i : ℕ) : Type 0 where
   pub here : i < length desk.windows
   pub window : IsWindow (window_at desk i)
-  pub surface : HasSheet desk.surfaces (window_at desk i).frame.surface
+  pub surface : (window_at desk i).frame.surface < length desk.surfaces
   pub whole : IsSurface (surface_at desk (window_at desk i).frame.surface)
   pub part : IsPart (surface_at desk (window_at desk i).frame.surface) (window_at desk i).frame.area
   pub screen : IsSize desk.rows desk.columns
@@ -149,7 +153,7 @@ first_desk rows columns =
     record {
       rows = rows;
       columns = columns;
-      surfaces = record { number = 0; surface = blank_surface rows columns } ∷ [];
+      surfaces = blank_surface rows columns ∷ [];
       windows = fresh_window (first_frame rows columns) no_attributes 0 blank_cell ∷ [];
       made = 0;
     }

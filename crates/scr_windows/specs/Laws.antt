@@ -1,23 +1,31 @@
 -- Laws of desks: what follows from the definitions of the calls, as a check on them.
-use Rattle.std.specs.Prelude.{ℕ, ◌≡◌, ◌≢◌, ◌+◌, ◌-◌, ◌<◌, Some, Ok, false, length}
+use Rattle.std.specs.Prelude.{ℕ, ◌≡◌, ◌≢◌, ◌↔◌, ◌+◌, ◌-◌, ◌<◌, Some, Ok, false, length}
 use Rattle.scr_cells.specs.CellViews.{CellView}
 use Rattle.scr_windows.specs.Surfaces.SurfaceViews.{is_inside}
 use Rattle.scr_windows.specs.DeskViews.{DeskView, IsDesk, IsThere, window_at}
 use Rattle.scr_windows.specs.Changes.{index_of, write}
 use Rattle.scr_windows.specs.Calls.Moving.{move_window_call, move_derived_call}
 use Rattle.scr_windows.specs.Calls.Reading.{at}
-use Rattle.scr_windows.specs.Calls.Removing.{has_children, deleted}
+use Rattle.scr_windows.specs.Calls.Removing.{has_children, deleted, on_surface}
 use Rattle.scr_windows.specs.Calls.Resizing.{resize_window_call}
 
 -- newwin(): every window that is found lies on its surface and, if it has a place there, wholly on the screen.
 abbrev pub WindowsArePlaced : Type 0
 WindowsArePlaced = (desk : DeskView) (number i : ℕ) → IsDesk desk → index_of desk number ≡ Ok i → IsThere desk i
 
--- delwin(): every other window stays as it is, with all its cells.
-abbrev pub DeletingKeepsOthers : Type 0
-DeletingKeepsOthers =
-    (desk : DeskView) (number other k : ℕ) → IsDesk desk → has_children number desk.windows ≡ false → other ≢ number → index_of desk other ≡ Ok k
-    → (m : ℕ) × (index_of (deleted desk number) other ≡ Ok m) × (window_at (deleted desk number) m ≡ window_at desk k) × ((r c : ℕ) → at (deleted desk number) m r c ≡ at desk k r c)
+-- Window m of a desk is window k of the one before, with all its cells. Only the index of its surface may be another.
+pub record IsKeptAt (old new : DeskView) (k m : ℕ) : Type 0 where
+  pub window : window_at new m ≡ on_surface (window_at new m).frame.surface (window_at old k)
+  pub cells : (r c : ℕ) → at new m r c ≡ at old k r c
+
+-- delwin(): every other window stays as it is, with all its cells, and two of them share a surface exactly if they did
+-- before.
+pub record DeletingKeepsOthers : Type 0 where
+  pub others : (desk : DeskView) (number i other k : ℕ) → IsDesk desk → index_of desk number ≡ Ok i → has_children number desk.windows ≡ false → other ≢ number → index_of desk other ≡ Ok k
+      → (m : ℕ) × (index_of (deleted desk i) other ≡ Ok m) × IsKeptAt desk (deleted desk i) k m
+  pub sharing : (desk : DeskView) (number i one other k l m n : ℕ) → IsDesk desk → index_of desk number ≡ Ok i → has_children number desk.windows ≡ false → one ≢ number → other ≢ number
+      → index_of desk one ≡ Ok k → index_of desk other ≡ Ok l → index_of (deleted desk i) one ≡ Ok m → index_of (deleted desk i) other ≡ Ok n
+      → ((window_at (deleted desk i) m).frame.surface ≡ (window_at (deleted desk i) n).frame.surface) ↔ ((window_at desk k).frame.surface ≡ (window_at desk l).frame.surface)
 
 -- derwin(): a subwindow's cell is the parent's cell in the same place of their surface.
 abbrev pub SubwindowsShareCells : Type 0

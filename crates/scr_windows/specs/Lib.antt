@@ -4,5 +4,4 @@ pub mod Code
 pub mod DeskViews
 pub mod Laws
 pub mod Lending
-pub mod Sheets
 pub mod Surfaces

@@ -8,7 +8,7 @@ ghost use Rattle.scr_windows.specs.Changes.{index_of, with_window, marked};
 
 use crate::faults::{Win, WinFault};
 use crate::frames::{Canvas, WindowState};
-use crate::sheets::Sheet;
+use crate::surfaces::Surface;
 use crate::windows::{Window, index_of_number};
 use std::fmt;
 use std::marker::Model;
@@ -24,8 +24,8 @@ use std::marker::Model;
 pub struct Desk {
     pub(crate) rows: u32,
     pub(crate) columns: u32,
-    // By ascending numbers.
-    pub(crate) surfaces: Vec<Sheet>,
+    // One for each window that is not a subwindow. A window's frame holds the index of its own.
+    pub(crate) surfaces: Vec<Surface>,
     // By ascending numbers.
     pub(crate) windows: Vec<Window>,
     // How many windows were made after the first.

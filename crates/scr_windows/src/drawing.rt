@@ -5,13 +5,12 @@ ghost use Rattle.std.specs.Prelude.{◌≡◌, ◌+◌, ◌<◌, ◌≤◌, leng
 ghost use Rattle.scr_windows.specs.Surfaces.Drawings.{IsFitting, drawn};
 ghost use Rattle.scr_windows.specs.Surfaces.Formulas.{run_put};
 ghost use Rattle.scr_windows.specs.DeskViews.{window_at};
-ghost use Rattle.scr_windows.specs.Code.Canvases.{IsKept, IsSheetOf, lines_drawn};
+ghost use Rattle.scr_windows.specs.Code.Canvases.{IsKept, lines_drawn};
 ghost use Rattle.scr_windows.specs.Code.Stretches.{characters_first, forms_from, row_laid};
 ghost use Rattle.scr_windows.specs.Changes.{write};
 
 use crate::desks::Desk;
 use crate::laws::surface_laws;
-use crate::sheets::index_of_sheet;
 use crate::surfaces::Drawing;
 use scr_cells::Cell;
 
@@ -27,26 +26,14 @@ impl Desk {
         let frame = window.frame();
         let (first, end) = lines_of(drawing, frame.area.rows);
         window.mark(first, end, true);
-        let sheet = index_of_sheet(&self.surfaces, frame.surface);
         surface_laws();
-        self.surfaces[sheet].surface.draw(frame.area, drawing);
+        self.surfaces[frame.surface].draw(frame.area, drawing);
     }
 
-    // The index of the surface that the window at an index is on. A text is added on it without looking for it again.
+    // Puts a cell in one place of the window at an index, and touches the line.
     #[inline(always)]
-    pub(crate) fn sheet_of(&self, index: usize) -> usize
-        requires { index < length self.now.windows }
-        ensures { IsSheetOf self.now index result }
-    {
-        let frame = self.window_at(index).frame();
-        index_of_sheet(&self.surfaces, frame.surface)
-    }
-
-    // Puts a cell in one place of the window at an index, which is on this surface, and touches the line.
-    #[inline(always)]
-    pub(crate) fn put(&mut self, index: usize, sheet: usize, row: u32, column: u32, cell: Cell)
+    pub(crate) fn put(&mut self, index: usize, row: u32, column: u32, cell: Cell)
         requires here { index < length self.old.windows }
-        requires sheet { IsSheetOf self.old index sheet }
         requires row { row < (window_at self.old index).frame.area.rows }
         requires column { column < (window_at self.old index).frame.area.columns }
         ensures put { self.new ≡ write self.old index row (row + 1) (run_put row column (column + 1) cell) }
@@ -56,25 +43,21 @@ impl Desk {
         let frame = window.frame();
         window.touch_line(row);
         surface_laws();
-        self.surfaces[sheet]
-            .surface
-            .put(frame.area, row, column, cell);
+        self.surfaces[frame.surface].put(frame.area, row, column, cell);
     }
 
-    // Writes the characters that a text begins with from a place on in the window at an index, which is on this
-    // surface, and touches the line. Each is in the cell that a blank gets, but for its byte. The line has room for all
-    // of the text. Gives how many they are.
+    // Writes the characters that a text begins with from a place on in the window at an index, and touches the line.
+    // Each is in the cell that a blank gets, but for its byte. The line has room for all of the text. Gives how many
+    // they are.
     #[inline(always)]
     pub(crate) fn put_text(
         &mut self,
         index: usize,
-        sheet: usize,
         place: (u32, u32),
         text: &[u8],
         blank: Cell,
     ) -> usize
         requires here { index < length self.old.windows }
-        requires sheet { IsSheetOf self.old index sheet }
         requires row { place.0 < (window_at self.old index).frame.area.rows }
         requires fits { place.1 + length text.now ≤ (window_at self.old index).frame.area.columns }
         ensures count { result ≡ characters_first text.now }
@@ -86,9 +69,7 @@ impl Desk {
         let frame = window.frame();
         window.touch_line(row);
         surface_laws();
-        self.surfaces[sheet]
-            .surface
-            .write_text(frame.area, row, column, text, blank)
+        self.surfaces[frame.surface].write_text(frame.area, row, column, text, blank)
     }
 }
 

@@ -7,8 +7,8 @@ use scr_cells::{Attrs, Cell};
 pub struct Frame {
     /// The window's number.
     pub number: u32,
-    /// Its surface, by the number of the window that was made with it.
-    pub surface: u32,
+    /// The index of its surface among the desk's.
+    pub surface: usize,
     /// Its part of the surface.
     pub area: Area,
     /// The number of the window that it is a subwindow of.

@@ -8,7 +8,6 @@ mod faults;
 mod frames;
 mod laws;
 mod lent;
-mod sheets;
 mod surfaces;
 mod windows;
 

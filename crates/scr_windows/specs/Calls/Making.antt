@@ -23,16 +23,16 @@ part_of area rows columns row column =
 abbrev pub is_full : DeskView → Bool
 is_full desk = leb 1000 (length desk.windows) || leb 4294967295 desk.made
 
--- The frame of a new window on a surface of its own.
+-- The frame of a new window on a surface of its own, which comes after all others.
 abbrev pub root_frame : DeskView → ℕ → ℕ → Option (ℕ × ℕ) → Frame
 root_frame desk rows columns origin =
-    record { number = desk.made + 1; surface = desk.made + 1; area = record { top = 0; left = 0; rows = rows; columns = columns }; parent = None; origin = origin }
+    record { number = desk.made + 1; surface = length desk.surfaces; area = record { top = 0; left = 0; rows = rows; columns = columns }; parent = None; origin = origin }
 
 -- The desk with a new blank window on a surface of its own.
 abbrev pub with_root : DeskView → ℕ → ℕ → Option (ℕ × ℕ) → DeskView
 with_root desk rows columns origin =
     record desk {
-      surfaces = desk.surfaces ++ record { number = desk.made + 1; surface = blank_surface rows columns } ∷ [];
+      surfaces = desk.surfaces ++ blank_surface rows columns ∷ [];
       windows = desk.windows ++ fresh_window (root_frame desk rows columns origin) no_attributes 0 blank_cell ∷ [];
       made = desk.made + 1;
     }

@@ -1,13 +1,12 @@
 -- What the call that gives a window another size does. X/Open Curses Issue 7 has no such call; elsewhere it is wresize().
-use Rattle.std.specs.Prelude.{ℕ, Bool, true, Option, None, Some, Result, Ok, Err, replicate, slice_set, ◌+◌, ◌-◌, ◌&&◌, leb, ltb, if◌then◌else◌}
+use Rattle.std.specs.Prelude.{ℕ, Bool, true, Option, None, Some, Result, Ok, Err, replicate, ◌+◌, ◌-◌, ◌&&◌, leb, ltb, if◌then◌else◌}
 use Rattle.scr_windows.specs.declared.surfaces.areas.Area.{Area}
 use Rattle.scr_windows.specs.declared.frames.Frame.{Frame}
 use Rattle.scr_windows.specs.declared.faults.WinFault.{WinFault}
 use Rattle.scr_windows.specs.declared.faults.WinFault.TheVariants.{HasChildren, OffScreen, NotInParent}
-use Rattle.scr_windows.specs.Surfaces.SurfaceViews.{resized_surface}
-use Rattle.scr_windows.specs.Sheets.{with_surface}
+use Rattle.scr_windows.specs.Surfaces.SurfaceViews.{SurfaceView, resized_surface}
 use Rattle.scr_windows.specs.DeskViews.{WindowView, DeskView, surface_at, window_at}
-use Rattle.scr_windows.specs.Changes.{index_of, on_window, with_window}
+use Rattle.scr_windows.specs.Changes.{index_of, on_window, with_surface, with_window}
 use Rattle.scr_windows.specs.Calls.Making.{part_of, pad_size, screen_area}
 use Rattle.scr_windows.specs.Calls.Removing.{has_children}
 
@@ -43,10 +42,8 @@ whole_area rows columns = record { top = 0; left = 0; rows = rows; columns = col
 abbrev pub with_root_size : DeskView → ℕ → ℕ → ℕ → DeskView
 with_root_size desk i rows columns =
     let window : WindowView = window_at desk i in
-    record desk {
-      surfaces = with_surface window.frame.surface (resized_surface (surface_at desk window.frame.surface) window.frame.area rows columns window.state.background) desk.surfaces;
-      windows = slice_set desk.windows i (resized (whole_area rows columns) window);
-    }
+    let surface : SurfaceView = resized_surface (surface_at desk window.frame.surface) window.frame.area rows columns window.state.background in
+    with_window (with_surface desk window.frame.surface surface) i (resized (whole_area rows columns) window)
 
 -- The same, refused if there is no size.
 abbrev pub root_resized : DeskView → ℕ → Result (ℕ × ℕ) WinFault → DeskView × Result (Unit {0}) WinFault

@@ -1,11 +1,10 @@
 -- Words of private functions: what they know of the window that a call is about, and the lines that a drawing writes.
-use Rattle.std.specs.Prelude.{ℕ, ◌≡◌, ◌+◌, ◌<◌, length, slice_index_or, Ok}
+use Rattle.std.specs.Prelude.{ℕ, ◌≡◌, ◌+◌, ◌<◌, length, Ok}
 use Rattle.scr_windows.specs.declared.frames.Canvas.{Canvas}
 use Rattle.scr_windows.specs.declared.surfaces.drawings.Drawing.{Drawing}
 use Rattle.scr_windows.specs.declared.surfaces.drawings.Drawing.TheVariants.{Run, Rows, Below, Column, Opened, Closed, Up, Down, Exchanged, Edges}
 use Rattle.scr_windows.specs.DeskViews.{HasSameSize, DeskView, window_at, IsThere}
 use Rattle.scr_windows.specs.Changes.{index_of}
-use Rattle.scr_windows.specs.Sheets.{no_sheet}
 
 -- the canvas of the window at an index
 pub record IsCanvasAt (desk : DeskView) (canvas : Canvas) : Type 0 where
@@ -19,11 +18,6 @@ pub record IsCanvas (desk : DeskView) (number : ℕ) (canvas : Canvas) : Type 0 
   pub area_is : canvas.area ≡ (window_at desk canvas.index).frame.area
   pub state_is : canvas.state ≡ (window_at desk canvas.index).state
   pub placed : IsThere desk canvas.index
-
--- the index of the surface that the window at an index is on
-pub record IsSheetOf (desk : DeskView) (i sheet : ℕ) : Type 0 where
-  pub within : sheet < length desk.surfaces
-  pub number : (slice_index_or desk.surfaces sheet no_sheet).number ≡ (window_at desk i).frame.surface
 
 -- a window that is still there, in its frame and with what was set in it, on a screen of the same size
 pub record IsKept (old new : DeskView) (i : ℕ) : Type 0 where

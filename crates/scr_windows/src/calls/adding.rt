@@ -8,7 +8,6 @@ ghost use Rattle.std.specs.Str.{chars};
 ghost use Rattle.scr_cells.specs.CellViews.{IsPair};
 ghost use Rattle.scr_cells.specs.Characters.{IsCharacter};
 ghost use Rattle.scr_windows.specs.DeskViews.{HasSameSize, window_at};
-ghost use Rattle.scr_windows.specs.Code.Canvases.{IsSheetOf};
 ghost use Rattle.scr_windows.specs.Calls.Adding.{written_form, gone_to, line_begun, cell_added, character_added, newline_added, tab_added, either_stayed, shown_as, shown_added, code_added, add_byte_call, add_character_call, add_text_call, add_str_call};
 
 use crate::calls::texts::is_any_above;
@@ -30,8 +29,7 @@ impl Desk {
         if byte >= 128 {
             return Err(WinFault::NotAscii);
         }
-        let sheet = self.sheet_of(index);
-        Ok(self.add_at(index, sheet, char::from(byte), attrs))
+        Ok(self.add_at(index, char::from(byte), attrs))
     }
 
     /// Adds a character at a window's cursor, as `add_byte` adds one of ASCII.
@@ -50,8 +48,7 @@ impl Desk {
         let Some(cell) = form_of(character, attrs, state) else {
             return Err(WinFault::NotOneColumn);
         };
-        let sheet = self.sheet_of(index);
-        Ok(self.write_cell(index, sheet, cell))
+        Ok(self.write_cell(index, cell))
     }
 
     /// Adds the bytes of a text one after another, as `add_byte` does without attributes.
@@ -78,19 +75,11 @@ impl Desk {
         Ok(self.add_characters(index, text))
     }
 
-    // Adds a control character or a character to the window at an index, which is on this surface. Those below 160 are
-    // one or the other.
+    // Adds a control character or a character to the window at an index. Those below 160 are one or the other.
     #[inline(always)]
     #[tactic(auto, using(crate::proofs::AddingLaws::other_is_character), unfolding(crate::specs::Calls::Adding::code_added))]
-    pub(crate) fn add_at(
-        &mut self,
-        index: usize,
-        sheet: usize,
-        character: char,
-        attrs: Attrs,
-    ) -> Added
+    pub(crate) fn add_at(&mut self, index: usize, character: char, attrs: Attrs) -> Added
         requires here { index < length self.old.windows }
-        requires sheet { IsSheetOf self.old index sheet }
         requires character { (character < 160) ⊎ IsCharacter character }
         ensures added { (self.new, result) ≡ code_added self.old index character attrs }
         ensures there { index < length self.new.windows }
@@ -102,58 +91,49 @@ impl Desk {
             '\t' => self.add_tab(index),
             '\u{8}' => self.go_to(index, row, column.saturating_sub(1)),
             '\r' => self.go_to(index, row, 0),
-            '\0'..' ' | '\u{7f}'..'\u{a0}' => self.add_shown(index, sheet, character, attrs),
-            _ => self.write_character(index, sheet, character, attrs),
+            '\0'..' ' | '\u{7f}'..'\u{a0}' => self.add_shown(index, character, attrs),
+            _ => self.write_character(index, character, attrs),
         }
     }
 
     // Shows a control character as two characters.
     #[inline(never)]
-    fn add_shown(&mut self, index: usize, sheet: usize, character: char, attrs: Attrs) -> Added
+    fn add_shown(&mut self, index: usize, character: char, attrs: Attrs) -> Added
         requires here { index < length self.old.windows }
-        requires sheet { IsSheetOf self.old index sheet }
         requires control { is_control character ≡ true }
         ensures added { (self.new, result) ≡ shown_added self.old index character attrs }
         ensures there { index < length self.new.windows }
     {
         let (sign, shown) = shown_as(character);
-        let first = self.write_character(index, sheet, sign, attrs);
-        let second = self.write_character(index, sheet, shown, attrs);
+        let first = self.write_character(index, sign, attrs);
+        let second = self.write_character(index, shown, attrs);
         either(first, second)
     }
 
     // Writes a character at the cursor.
     #[inline(always)]
     #[tactic(auto, unfolding(crate::specs::Calls::Adding::character_added))]
-    fn write_character(
-        &mut self,
-        index: usize,
-        sheet: usize,
-        character: char,
-        attrs: Attrs,
-    ) -> Added
+    fn write_character(&mut self, index: usize, character: char, attrs: Attrs) -> Added
         requires here { index < length self.old.windows }
-        requires sheet { IsSheetOf self.old index sheet }
         requires character { IsCharacter character }
         ensures added { (self.new, result) ≡ character_added self.old index character attrs }
         ensures there { index < length self.new.windows }
     {
         let state = self.canvas_at(index).state;
-        self.write_cell(index, sheet, written_form(character, attrs, state))
+        self.write_cell(index, written_form(character, attrs, state))
     }
 
     // Writes a cell at the cursor.
     #[inline(always)]
     #[tactic(auto, unfolding(crate::specs::Calls::Adding::cell_added))]
-    pub(crate) fn write_cell(&mut self, index: usize, sheet: usize, cell: Cell) -> Added
+    pub(crate) fn write_cell(&mut self, index: usize, cell: Cell) -> Added
         requires here { index < length self.old.windows }
-        requires sheet { IsSheetOf self.old index sheet }
         ensures added { (self.new, result) ≡ cell_added self.old index cell }
         ensures there { index < length self.new.windows }
     {
         let canvas = self.canvas_at(index);
         let (row, column) = canvas.state.cursor;
-        self.put(index, sheet, row, column, cell);
+        self.put(index, row, column, cell);
         let end = column + 1;
         if end < canvas.area.columns {
             self.go_to(index, row, end)

@@ -12,7 +12,6 @@ ghost use Rattle.scr_windows.specs.declared.faults.WinFault.TheVariants.{NoMemor
 use crate::desks::Desk;
 use crate::faults::{Win, WinFault};
 use crate::laws::surface_laws;
-use crate::sheets::index_of_sheet;
 use crate::surfaces::Area;
 use scr_cells::{Cell, Grid, grid_laws};
 use std::alloc::Global;
@@ -189,8 +188,7 @@ impl Desk {
             rows: part.rows,
             columns: part.columns,
         };
-        let sheet = index_of_sheet(&self.surfaces, frame.surface);
-        Ok(self.surfaces[sheet].surface.block(alloc, area)?)
+        Ok(self.surfaces[frame.surface].block(alloc, area)?)
     }
 
     // Lays a block of cells over the window at an index from a row and a column on, and touches the lines.
@@ -204,11 +202,8 @@ impl Desk {
         let window = &mut self.windows[index];
         let frame = window.frame();
         window.mark(top, top + block.rows(), true);
-        let sheet = index_of_sheet(&self.surfaces, frame.surface);
         surface_laws();
-        self.surfaces[sheet]
-            .surface
-            .lay(frame.area, top, left, block, overlay);
+        self.surfaces[frame.surface].lay(frame.area, top, left, block, overlay);
     }
 }
 

@@ -13,7 +13,6 @@ use crate::desks::Desk;
 use crate::faults::{Win, WinFault};
 use crate::frames::Frame;
 use crate::laws::surface_laws;
-use crate::sheets::Sheet;
 use crate::surfaces::{Area, Surface};
 use crate::windows::Window;
 use scr_cells::{Attrs, Cell, Size};
@@ -44,7 +43,7 @@ impl Desk {
         surface_laws();
         let mut surfaces = Vec::new(alloc);
         let surface = Surface::blank(alloc, rows, columns)?;
-        surfaces.push(Sheet { number: 0, surface })?;
+        surfaces.push(surface)?;
         let mut windows = Vec::new(alloc);
         windows.push(Window::fresh(alloc, frame, Attrs(0), 0, Cell::blank())?)?;
         Ok(Desk {
@@ -132,7 +131,7 @@ impl Desk {
         let number = self.made + 1;
         let frame = Frame {
             number,
-            surface: number,
+            surface: self.surfaces.len(),
             area: Area {
                 top: 0,
                 left: 0,
@@ -146,7 +145,7 @@ impl Desk {
         self.windows.reserve(1)?;
         let surface = Surface::blank(alloc, rows, columns)?;
         let window = Window::fresh(alloc, frame, Attrs(0), 0, Cell::blank())?;
-        self.surfaces.push(Sheet { number, surface })?;
+        self.surfaces.push(surface)?;
         self.windows.push(window)?;
         self.made = number;
         Ok(Win(number))

@@ -8,7 +8,6 @@ ghost use Rattle.scr_windows.specs.Calls.Reading.{cell_at_answer, cursor_answer,
 use crate::desks::Desk;
 use crate::faults::{Win, WinFault};
 use crate::lent::WindowRef;
-use crate::sheets::index_of_sheet;
 use scr_cells::{Cell, Size};
 
 impl Desk {
@@ -155,8 +154,7 @@ impl Desk {
         ensures { result ≡ contents self.now index }
     {
         let window = &self.windows[index];
-        let sheet = index_of_sheet(&self.surfaces, window.frame().surface);
-        WindowRef::new(window, &self.surfaces[sheet].surface)
+        WindowRef::new(window, &self.surfaces[window.frame().surface])
     }
 
     // The cells of a row of the window at an index.
@@ -167,7 +165,6 @@ impl Desk {
         ensures width { length result.now ≡ (window_at self.now index).frame.area.columns }
     {
         let frame = self.windows[index].frame();
-        let sheet = index_of_sheet(&self.surfaces, frame.surface);
-        self.surfaces[sheet].surface.line(frame.area, row)
+        self.surfaces[frame.surface].line(frame.area, row)
     }
 }

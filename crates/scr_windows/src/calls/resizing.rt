@@ -12,7 +12,6 @@ use crate::calls::subwindows::part_of;
 use crate::desks::Desk;
 use crate::faults::{Win, WinFault};
 use crate::laws::surface_laws;
-use crate::sheets::index_of_sheet;
 use crate::surfaces::Area;
 use std::alloc::Global;
 
@@ -87,11 +86,14 @@ impl Desk {
         let window = &self.windows[index];
         let (frame, state) = (window.frame(), window.state());
         let window = window.resized(alloc, area)?;
-        let sheet = index_of_sheet(&self.surfaces, frame.surface);
-        let surface = self.surfaces[sheet]
-            .surface
-            .resized(alloc, frame.area, rows, columns, state.background)?;
-        self.surfaces[sheet].surface = surface;
+        let surface = self.surfaces[frame.surface].resized(
+            alloc,
+            frame.area,
+            rows,
+            columns,
+            state.background,
+        )?;
+        self.surfaces[frame.surface] = surface;
         self.windows[index] = window;
         Ok(())
     }

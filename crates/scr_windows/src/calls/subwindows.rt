@@ -95,7 +95,8 @@ impl Desk {
         column: u32,
     ) -> Result<Win, WinFault>
         requires { index < length self.old.windows }
-        ensures { Allocated self.old (derived self.old index (window_at self.old index).frame.origin rows columns row column) (self.new, result) }
+        ensures made { Allocated self.old (derived self.old index (window_at self.old index).frame.origin rows columns row column) (self.new, result) }
+        ensures size { HasSameSize self.old self.new }
     {
         let frame = self.window_at(index).frame();
         let Some(origin) = frame.origin else {
@@ -118,7 +119,8 @@ impl Desk {
     ) -> Result<Win, WinFault>
         requires here { index < length self.old.windows }
         requires inside { IsChildPlace self.old index area origin }
-        ensures { Allocated self.old (child_made self.old index area origin) (self.new, result) }
+        ensures made { Allocated self.old (child_made self.old index area origin) (self.new, result) }
+        ensures size { HasSameSize self.old self.new }
     {
         if self.windows.len() >= MOST || self.made == u32::MAX {
             return Err(WinFault::TooMany);

@@ -6,7 +6,6 @@ ghost use Rattle.std.specs.Prelude.{◌≡◌, ◌+◌, ◌<◌, ◌≤◌, leng
 ghost use Rattle.std.specs.List.{flat_map, list_any};
 ghost use Rattle.std.specs.Str.{IsCharBoundary, chars};
 ghost use Rattle.scr_windows.specs.DeskViews.{window_at};
-ghost use Rattle.scr_windows.specs.Code.Canvases.{IsSheetOf};
 ghost use Rattle.scr_windows.specs.Code.Stretches.{characters_first};
 ghost use Rattle.scr_windows.specs.declared.faults.Added.TheVariants.{Done};
 ghost use Rattle.scr_windows.specs.Calls.Adding.{written_form, fitted, text_added};
@@ -25,60 +24,57 @@ impl Desk {
         requires ascii { list_any (λ byte. leb 128 byte) text.now ≡ false }
         ensures { (self.new, result) ≡ text_added self.old index text.now }
     {
-        let sheet = self.sheet_of(index);
         let mut all = Added::Done;
         let mut at = 0;
         while at + 1 < text.len() {
-            let (count, some) = self.add_some(index, sheet, text, at);
+            let (count, some) = self.add_some(index, text, at);
             all = either(all, some);
             at += count;
         }
         if at < text.len() {
-            let last = self.add_at(index, sheet, char::from(text[at]), Attrs(0));
+            let last = self.add_at(index, char::from(text[at]), Attrs(0));
             all = either(all, last);
         }
         all
     }
 
-    // Adds bytes of a text, from one before the last on, to the window at an index, which is on this surface: a stretch
-    // of characters that the line takes before its last column, or else one byte. Gives how many.
+    // Adds bytes of a text, from one before the last on, to the window at an index: a stretch of characters that the
+    // line takes before its last column, or else one byte. Gives how many.
     #[inline(always)]
-    fn add_some(&mut self, index: usize, sheet: usize, text: &[u8], at: usize) -> (usize, Added)
+    fn add_some(&mut self, index: usize, text: &[u8], at: usize) -> (usize, Added)
         requires here { index < length self.old.windows }
-        requires sheet { IsSheetOf self.old index sheet }
         requires at { at + 1 < length text.now }
         requires ascii { list_any (λ byte. leb 128 byte) text.now ≡ false }
         ensures some { 1 ≤ result.0 }
         ensures within { at + result.0 ≤ length text.now }
         ensures added { (self.new, result.1) ≡ text_added self.old index (take result.0 (drop at text.now)) }
         ensures there { index < length self.new.windows }
-        ensures sheet { IsSheetOf self.new index sheet }
     {
         let canvas = self.canvas_at(index);
         let room = (canvas.area.columns - 1 - canvas.state.cursor.1) as usize;
         if room < 2 || !is_ascii(text[at]) {
-            return (1, self.add_at(index, sheet, char::from(text[at]), Attrs(0)));
+            return (1, self.add_at(index, char::from(text[at]), Attrs(0)));
         }
         let end = at + room.min(text.len() - at);
-        (self.add_stretch(index, sheet, &text[at..end]), Added::Done)
+        (self.add_stretch(index, &text[at..end]), Added::Done)
     }
 
-    // Adds the characters that a text begins with to the window at an index, which is on this surface. They end before
-    // the line's last column. Gives how many they are.
+    // Adds the characters that a text begins with to the window at an index. They end before the line's last column.
+    // Gives how many they are.
     #[inline(always)]
-    fn add_stretch(&mut self, index: usize, sheet: usize, text: &[u8]) -> usize
+    fn add_stretch(&mut self, index: usize, text: &[u8]) -> usize
         requires here { index < length self.old.windows }
-        requires sheet { IsSheetOf self.old index sheet }
         requires some { 1 ≤ characters_first text.now }
         requires room { (window_at self.old index).state.cursor.1 + length text.now < (window_at self.old index).frame.area.columns }
         ensures count { result ≡ characters_first text.now }
         ensures added { (self.new, Done) ≡ text_added self.old index (take result text.now) }
+        ensures there { index < length self.new.windows }
     {
         surface_laws();
         let state = self.window_at(index).state();
         let (row, column) = state.cursor;
         let blank = written_form(' ', Attrs(0), state);
-        let count = self.put_text(index, sheet, (row, column), text, blank);
+        let count = self.put_text(index, (row, column), text, blank);
         self.set_cursor(index, row, column + count as u32);
         count
     }
@@ -88,94 +84,80 @@ impl Desk {
         requires { index < length self.old.windows }
         ensures { (self.new, result) ≡ text_added self.old index (flat_map fitted (chars text.now)) }
     {
-        let sheet = self.sheet_of(index);
         let mut all = Added::Done;
         let mut at = 0;
         while at < text.len() {
-            let (count, some) = self.add_part(index, sheet, &text[at..]);
+            let (count, some) = self.add_part(index, &text[at..]);
             all = either(all, some);
             at += count;
         }
         all
     }
 
-    // Adds what a text of Unicode begins with to the window at an index, which is on this surface: a stretch of
-    // characters of ASCII that the line takes before its last column, or else one character. Gives how many bytes that
-    // is.
+    // Adds what a text of Unicode begins with to the window at an index: a stretch of characters of ASCII that the line
+    // takes before its last column, or else one character. Gives how many bytes that is.
     #[inline(always)]
-    fn add_part(&mut self, index: usize, sheet: usize, text: &str) -> (usize, Added)
+    fn add_part(&mut self, index: usize, text: &str) -> (usize, Added)
         requires here { index < length self.old.windows }
-        requires sheet { IsSheetOf self.old index sheet }
         requires some { 1 ≤ length text.now }
         ensures some { 1 ≤ result.0 }
         ensures place { IsCharBoundary text.now result.0 }
         ensures added { (self.new, result.1) ≡ text_added self.old index (flat_map fitted (chars (take result.0 text.now))) }
         ensures there { index < length self.new.windows }
-        ensures sheet { IsSheetOf self.new index sheet }
     {
         let canvas = self.canvas_at(index);
         let last = canvas.area.columns - 1;
         let bytes = text.as_bytes();
         let end = ((last - canvas.state.cursor.1) as usize).min(bytes.len());
         if end < 2 || !is_ascii(bytes[0]) {
-            return self.add_first(index, sheet, text);
+            return self.add_first(index, text);
         }
-        (self.add_stretch(index, sheet, &bytes[..end]), Added::Done)
+        (self.add_stretch(index, &bytes[..end]), Added::Done)
     }
 
-    // Adds the first character of a text of Unicode to the window at an index, which is on this surface. Gives how many
-    // bytes it has.
+    // Adds the first character of a text of Unicode to the window at an index. Gives how many bytes it has.
     #[inline(never)]
-    fn add_first(&mut self, index: usize, sheet: usize, text: &str) -> (usize, Added)
+    fn add_first(&mut self, index: usize, text: &str) -> (usize, Added)
         requires here { index < length self.old.windows }
-        requires sheet { IsSheetOf self.old index sheet }
         requires some { 1 ≤ length text.now }
         ensures some { 1 ≤ result.0 }
         ensures place { IsCharBoundary text.now result.0 }
         ensures added { (self.new, result.1) ≡ text_added self.old index (flat_map fitted (chars (take result.0 text.now))) }
         ensures there { index < length self.new.windows }
-        ensures sheet { IsSheetOf self.new index sheet }
     {
         let Some(character) = text.chars().next() else {
             return (text.len(), Added::Done);
         };
-        (
-            character.len_utf8(),
-            self.add_fitted(index, sheet, character),
-        )
+        (character.len_utf8(), self.add_fitted(index, character))
     }
 
-    // Adds what is shown for a scalar value of Unicode to the window at an index, which is on this surface.
-    fn add_fitted(&mut self, index: usize, sheet: usize, character: char) -> Added
+    // Adds what is shown for a scalar value of Unicode to the window at an index.
+    fn add_fitted(&mut self, index: usize, character: char) -> Added
         requires here { index < length self.old.windows }
-        requires sheet { IsSheetOf self.old index sheet }
         ensures added { (self.new, result) ≡ text_added self.old index (fitted character) }
         ensures there { index < length self.new.windows }
-        ensures sheet { IsSheetOf self.new index sheet }
     {
         if character.is_control() {
-            return self.add_at(index, sheet, character, Attrs(0));
+            return self.add_at(index, character, Attrs(0));
         }
         let state = self.canvas_at(index).state;
         match form_of(character, Attrs(0), state) {
-            Some(cell) => self.write_cell(index, sheet, cell),
-            None => self.add_replacements(index, sheet, character.width().unwrap_or(0)),
+            Some(cell) => self.write_cell(index, cell),
+            None => self.add_replacements(index, character.width().unwrap_or(0)),
         }
     }
 
-    // Adds U+FFFD so many times to the window at an index, which is on this surface.
+    // Adds U+FFFD so many times to the window at an index.
     #[cold]
     #[inline(never)]
-    fn add_replacements(&mut self, index: usize, sheet: usize, count: usize) -> Added
+    fn add_replacements(&mut self, index: usize, count: usize) -> Added
         requires here { index < length self.old.windows }
-        requires sheet { IsSheetOf self.old index sheet }
         ensures added { (self.new, result) ≡ text_added self.old index (replicate count 0xFFFD) }
         ensures there { index < length self.new.windows }
-        ensures sheet { IsSheetOf self.new index sheet }
     {
         let mut all = Added::Done;
         for _ in 0..count {
-            let one = self.add_at(index, sheet, char::REPLACEMENT_CHARACTER, Attrs(0));
+            let one = self.add_at(index, char::REPLACEMENT_CHARACTER, Attrs(0));
             all = either(all, one);
         }
         all

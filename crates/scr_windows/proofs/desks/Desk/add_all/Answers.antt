@@ -12,7 +12,6 @@ loop-at-preserved c =
     record {
       within = c.add_some-count.ensures.within;
       here = c.add_some-count.ensures.there;
-      sheet = c.add_some-count.ensures.sheet;
       desk = more.0;
       answer = ap (λ (all : Added). either_stayed all (text_added c.add_some-count.new.self c.args.index rest).1) c.either-all.ensures ∙ more.1;
     }

@@ -1,5 +1,4 @@
 use Rattle.std.proofs.Common.{◌≡◌, ◌-◌, ◌<◌, ◌≤◌, length, drop}
-use Rattle.scr_windows.specs.Code.Canvases.{IsSheetOf}
 use Rattle.scr_windows.specs.Calls.Adding.{text_added, either_stayed}
 use Rattle.scr_windows.proofs.desks.Desk.add_all.Given as goal
 
@@ -8,7 +7,6 @@ abbrev pub invariant-loop-at : goal.invariant-loop-at
 invariant-loop-at l = record {
   within : l.at ≤ length l.text;
   here : l.index < length l.self.windows;
-  sheet : IsSheetOf l.self l.index l.sheet;
   desk : (text_added l.self l.index (drop l.at l.text)).0 ≡ (text_added l.fn.self l.index l.text).0;
   answer : either_stayed l.all (text_added l.self l.index (drop l.at l.text)).1 ≡ (text_added l.fn.self l.index l.text).1;
 }

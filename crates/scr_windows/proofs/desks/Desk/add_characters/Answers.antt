@@ -9,7 +9,7 @@ use Rattle.scr_windows.proofs.FittedLaws.{fitted_more, fitted_none}
 use Rattle.scr_windows.proofs.desks.Desk.add_characters.Goals as goal
 
 pub loop-at-init : goal.loop-at-init
-loop-at-init c = record { place = IsCharBoundary-start c.args.text.now c.utf8.text; here = c.requires; sheet = c.sheet_of-sheet.ensures; desk = refl; answer = refl }
+loop-at-init c = record { place = IsCharBoundary-start c.args.text.now c.utf8.text; here = c.requires; desk = refl; answer = refl }
 
 pub loop-at-preserved : goal.loop-at-preserved
 loop-at-preserved c =
@@ -25,7 +25,6 @@ loop-at-preserved c =
     record {
       place = IsCharBoundary-from_rest text at count c.loop-at.invariant.place.0 next;
       here = c.add_part-count.ensures.there;
-      sheet = c.add_part-count.ensures.sheet;
       desk = more.0;
       answer = ap (λ (all : Added). either_stayed all (text_added c.add_part-count.new.self c.args.index rest).1) c.either-all.ensures ∙ more.1;
     }

@@ -1,12 +1,10 @@
-use Rattle.std.proofs.Common.{◌≡◌, ◌∙◌, false, ap, refl, subst, sym}
+use Rattle.std.proofs.Common.{◌≡◌, ◌∙◌, false, ap, refl, sym}
 use Rattle.std.specs.Prelude.{replicate}
 use Rattle.std.specs.Option.{unwrap_or}
 use Rattle.unicode_width.specs.Width.{char_width}
-use Rattle.scr_windows.specs.declared.faults.Added.{Added}
-use Rattle.scr_windows.specs.DeskViews.{DeskView, no_attributes, window_at}
-use Rattle.scr_windows.specs.Code.Canvases.{IsSheetOf}
+use Rattle.scr_windows.specs.DeskViews.{no_attributes, window_at}
 use Rattle.scr_windows.specs.Calls.Adding.{text_added}
-use Rattle.scr_windows.proofs.AddingLaws.{cell_stays, character_is_cell, character_is_code, code_stays}
+use Rattle.scr_windows.proofs.AddingLaws.{character_is_cell, character_is_code}
 use Rattle.scr_windows.proofs.AddedLaws.{added_one}
 use Rattle.scr_windows.proofs.FittedLaws.{fitted_character, fitted_control, fitted_other}
 use Rattle.scr_windows.proofs.desks.Desk.add_fitted.Goals as goal
@@ -14,10 +12,6 @@ use Rattle.scr_windows.proofs.desks.Desk.add_fitted.Goals as goal
 pub returns-then-is_control-clause-added : goal.returns-then-is_control-clause-added
 returns-then-is_control-clause-added c =
     c.add_at.ensures.added ∙ sym (added_one c.args.self.now c.args.index c.args.character) ∙ ap (text_added c.args.self.now c.args.index) (sym (fitted_control c.args.character (sym c.is_control.ensures ∙ c.if-is_control.true)))
-
-pub returns-then-is_control-clause-sheet : goal.returns-then-is_control-clause-sheet
-returns-then-is_control-clause-sheet c =
-    subst (λ (r : DeskView × Added). IsSheetOf r.0 c.args.index c.args.sheet) (sym c.add_at.ensures.added) (code_stays _ c.args.index c.args.sheet _ _ c.requires.here c.requires.sheet)
 
 pub returns-in-Some-clause-added : goal.returns-in-Some-clause-added
 returns-in-Some-clause-added c =
@@ -28,10 +22,6 @@ returns-in-Some-clause-added c =
     let state = c.canvas_at-state.ensures.canvas.state_is ∙ ap (λ n. (window_at d n).state) c.canvas_at-state.ensures.index in
     c.write_cell.ensures.added ∙ character_is_cell d i code no_attributes c.in-Some.cell c.canvas_at-state.result.state c.in-Some.ensures.form state
     ∙ character_is_code d i code no_attributes (sym c.is_control.ensures ∙ c.if-is_control.false) ∙ sym (added_one d i code) ∙ ap (text_added d i) (sym (fitted_character code is))
-
-pub returns-in-Some-clause-sheet : goal.returns-in-Some-clause-sheet
-returns-in-Some-clause-sheet c =
-    subst (λ (r : DeskView × Added). IsSheetOf r.0 c.args.index c.args.sheet) (sym c.write_cell.ensures.added) (cell_stays _ c.args.index c.args.sheet _ c.requires.here c.requires.sheet)
 
 pub returns-in-None-clause-added : goal.returns-in-None-clause-added
 returns-in-None-clause-added c =

@@ -1,7 +1,6 @@
 use Rattle.std.proofs.Common.{◌≡◌, ◌∙◌, arith, ap, get_or, sym, take, true}
 use Rattle.scr_cells.specs.Characters.{is_ascii}
 use Rattle.scr_windows.specs.Calls.Adding.{text_added}
-use Rattle.scr_windows.proofs.AddingLaws.{text_stays}
 use Rattle.scr_windows.proofs.TextLaws.{part_begins}
 use Rattle.scr_windows.proofs.FittedLaws.{stretch_ends, stretch_is_fitted}
 use Rattle.scr_windows.proofs.desks.Desk.add_part.Goals as goal
@@ -21,9 +20,3 @@ returns-clause-added c =
     let part = take end c.as_bytes-bytes.result.now in
     let is : part ≡ take end c.args.text.now = ap (take end) c.as_bytes-bytes.ensures.value in
     c.add_stretch.ensures.added ∙ ap (text_added c.args.self.now c.args.index) (stretch_is_fitted c.args.text.now part c.add_stretch.result end is c.add_stretch.ensures.count)
-
-pub returns-clause-there : goal.returns-clause-there
-returns-clause-there c = (text_stays _ _ c.args.index c.args.sheet (take c.add_stretch.result (take c.min-end.result c.as_bytes-bytes.result.now)) _ c.requires.here c.requires.sheet c.add_stretch.ensures.added).0
-
-pub returns-clause-sheet : goal.returns-clause-sheet
-returns-clause-sheet c = (text_stays _ _ c.args.index c.args.sheet (take c.add_stretch.result (take c.min-end.result c.as_bytes-bytes.result.now)) _ c.requires.here c.requires.sheet c.add_stretch.ensures.added).1

@@ -1,10 +1,7 @@
-use Rattle.std.proofs.Common.{◌+◌, ◌-◌, ◌∷◌, [], ◌∙◌, sym, ap, subst, inr}
+use Rattle.std.proofs.Common.{◌+◌, ◌-◌, ◌∷◌, [], ◌∙◌, sym, ap, inr}
 use Rattle.std.specs.Prelude.{replicate}
 use Rattle.scr_windows.specs.declared.faults.Added.{Added}
-use Rattle.scr_windows.specs.DeskViews.{DeskView}
-use Rattle.scr_windows.specs.Code.Canvases.{IsSheetOf}
 use Rattle.scr_windows.specs.Calls.Adding.{either_stayed, text_added}
-use Rattle.scr_windows.proofs.AddingLaws.{code_stays}
 use Rattle.scr_windows.proofs.AddedLaws.{added_one, added_part, text_done}
 use Rattle.scr_windows.proofs.FittedLaws.{replacement_is_character, replacements_cut, replacements_done}
 use Rattle.scr_windows.proofs.desks.Desk.add_replacements.Goals as goal
@@ -19,7 +16,6 @@ loop-preserved c =
     (replacements_cut c.args.count c.loop.counter c.loop-test.true) part c.loop.invariant.desk c.loop.invariant.answer in
     record {
       here = c.add_at-one.ensures.there;
-      sheet = subst (λ (r : DeskView × Added). IsSheetOf r.0 c.args.index c.args.sheet) (sym c.add_at-one.ensures.added) (code_stays _ c.args.index c.args.sheet _ _ c.loop.invariant.here c.loop.invariant.sheet);
       desk = more.0;
       answer = ap (λ (all : Added). either_stayed all (text_added c.add_at-one.new.self c.args.index (replicate (c.args.count - (c.loop.counter + 1)) 0xFFFD)).1) c.either-all.ensures ∙ more.1;
     }
