@@ -4,7 +4,7 @@ use Rattle.std.specs.List.{range_with_len}
 use Rattle.std.proofs.lemmas.Bool.Decides.{nat_tests}
 use Rattle.scr_cells.specs.CellViews.{CellView, blank_cell}
 use Rattle.scr_cells.specs.Grids.{GridLaws, IsGrid, grid_at, grid_of, grid_with_run}
-use Rattle.scr_virtual.specs.declared.parts.Part.{Part}
+use Rattle.scr_virtual.specs.declared.parts.ShownPart.{ShownPart}
 use Rattle.scr_virtual.specs.Code.Lines.{copied_cell, line_copied}
 use Rattle.scr_virtual.specs.Ranges.{joined, joined_by, ranges_with}
 use Rattle.scr_virtual.specs.Taking.{columns_unlike, is_copied, part_cell, part_copied}
@@ -24,11 +24,11 @@ pub grid_same : (rows columns : ℕ) (f g : ℕ → ℕ → CellView) → ((r c 
 grid_same rows columns f g h = map_range _ _ 0 rows (λ r z b. map_range (f r) (g r) 0 columns (λ c y k. h r c (omega arith) (omega arith)))
 
 -- so many rows of a part
-abbrev pub rows_of_part : Part → ℕ → Part
+abbrev pub rows_of_part : ShownPart → ℕ → ShownPart
 rows_of_part part rows = record part { rows = rows }
 
 -- the cells of the screen when so many lines of a part are copied
-abbrev screen_at : Part → (ℕ → Bool) → (ℕ → ℕ → CellView) → (ℕ → ℕ → CellView) → ℕ → ℕ → ℕ → CellView
+abbrev screen_at : ShownPart → (ℕ → Bool) → (ℕ → ℕ → CellView) → (ℕ → ℕ → CellView) → ℕ → ℕ → ℕ → CellView
 screen_at part lines cells was k r c =
     cond (is_copied (rows_of_part part k) lines r && leb part.left c && ltb c (part.left + part.columns)) (cells (part.row + (r - part.top)) (part.column + (c - part.left))) (was r c)
 
@@ -58,11 +58,11 @@ row_left_out top k r t e left = grind (arith, nat_tests)
 none_row : (top r : ℕ) (t : Bool) → (leb top r && ltb r (top + 0) && t) ≡ false
 none_row top r t = grind (arith, nat_tests)
 
-line_at : (part : Part) (lines : ℕ → Bool) (k r : ℕ) → r ≡ part.top + k → lines (part.row + (r - part.top)) ≡ lines (part.row + k)
+line_at : (part : ShownPart) (lines : ℕ → Bool) (k r : ℕ) → r ≡ part.top + k → lines (part.row + (r - part.top)) ≡ lines (part.row + k)
 line_at part lines k r e = let same : part.row + (r - part.top) ≡ part.row + k = omega (arith, e) in ap lines same
 
 -- one more line is copied
-grid_more : GridLaws CellView → (part : Part) (lines : ℕ → Bool) (cells was : ℕ → ℕ → CellView) (rows columns k : ℕ) (run : List CellView) → lines (part.row + k) ≡ true → part.top + k < rows
+grid_more : GridLaws CellView → (part : ShownPart) (lines : ℕ → Bool) (cells was : ℕ → ℕ → CellView) (rows columns k : ℕ) (run : List CellView) → lines (part.row + k) ≡ true → part.top + k < rows
     → length run ≡ part.columns → part.left + part.columns ≤ columns → ((j : ℕ) → j < part.columns → get_or run j blank_cell ≡ cells (part.row + k) (part.column + j))
     → grid_with_run (grid_of rows columns (screen_at part lines cells was k)) (part.top + k) part.left run ≡ grid_of rows columns (screen_at part lines cells was (k + 1))
 grid_more laws part lines cells was rows columns k run taken row_in wide fits same =
@@ -77,7 +77,7 @@ grid_more laws part lines cells was rows columns k run taken row_in wide fits sa
     ])
 
 -- the range of one more row is what a function makes of it
-ranges_more : (part : Part) (lines : ℕ → Bool) (f : ℕ → Range → Range) (ranges : List Range) (k : ℕ) (value : Range) → lines (part.row + k) ≡ true → part.top + k < length ranges → value ≡ f (part.top + k) (get_or ranges (part.top + k) None)
+ranges_more : (part : ShownPart) (lines : ℕ → Bool) (f : ℕ → Range → Range) (ranges : List Range) (k : ℕ) (value : Range) → lines (part.row + k) ≡ true → part.top + k < length ranges → value ≡ f (part.top + k) (get_or ranges (part.top + k) None)
     → set (ranges_with (is_copied (rows_of_part part k) lines) f ranges) (part.top + k) value ≡ ranges_with (is_copied (rows_of_part part (k + 1)) lines) f ranges
 ranges_more part lines f ranges k value taken row_in is =
     range_put (is_copied (rows_of_part part k) lines) (is_copied (rows_of_part part (k + 1)) lines) f ranges (part.top + k) value row_in is
@@ -85,14 +85,14 @@ ranges_more part lines f ranges k value taken row_in is =
     (λ r n. row_other part.top k r (lines (part.row + (r - part.top))) n)
 
 -- that row's range was not changed before
-range_before : (part : Part) (lines : ℕ → Bool) (f : ℕ → Range → Range) (ranges : List Range) (k : ℕ) → part.top + k < length ranges → get_or (ranges_with (is_copied (rows_of_part part k) lines) f ranges) (part.top + k) None ≡ get_or ranges (part.top + k) None
+range_before : (part : ShownPart) (lines : ℕ → Bool) (f : ℕ → Range → Range) (ranges : List Range) (k : ℕ) → part.top + k < length ranges → get_or (ranges_with (is_copied (rows_of_part part k) lines) f ranges) (part.top + k) None ≡ get_or ranges (part.top + k) None
 range_before part lines f ranges k row_in =
     let there : ℕ = part.top + k in
     range_of (is_copied (rows_of_part part k) lines) f ranges there None row_in
     ∙ ap (λ b. cond b (f there (get_or ranges there None)) (get_or ranges there None)) (row_not_yet part.top k there (lines (part.row + (there - part.top))) refl)
 
 -- nor were its cells
-cells_before : GridLaws CellView → (part : Part) (lines : ℕ → Bool) (cells : ℕ → ℕ → CellView) (old : VirtualView) (k c : ℕ) → part.top + k < old.picture.rows → c < old.picture.columns
+cells_before : GridLaws CellView → (part : ShownPart) (lines : ℕ → Bool) (cells : ℕ → ℕ → CellView) (old : VirtualView) (k c : ℕ) → part.top + k < old.picture.rows → c < old.picture.columns
     → grid_at blank_cell (grid_of old.picture.rows old.picture.columns (screen_at part lines cells (grid_at blank_cell old.picture.lines) k)) (part.top + k) c ≡ grid_at blank_cell old.picture.lines (part.top + k) c
 cells_before laws part lines cells old k c row_in wide =
     let there : ℕ = part.top + k in
@@ -100,7 +100,7 @@ cells_before laws part lines cells old k c row_in wide =
     ∙ ap (λ b. cond (b && leb part.left c && ltb c (part.left + part.columns)) (part_cell part cells there c) (grid_at blank_cell old.picture.lines there c)) (row_not_yet part.top k there (lines (part.row + (there - part.top))) refl)
 
 -- as far as the lines are copied, one more is
-pub line_more : GridLaws CellView → (part : Part) (lines : ℕ → Bool) (cells : ℕ → ℕ → CellView) (old : VirtualView) (k : ℕ) (run : List CellView) → lines (part.row + k) ≡ true
+pub line_more : GridLaws CellView → (part : ShownPart) (lines : ℕ → Bool) (cells : ℕ → ℕ → CellView) (old : VirtualView) (k : ℕ) (run : List CellView) → lines (part.row + k) ≡ true
     → part.top + k < old.picture.rows → length old.changed ≡ old.picture.rows → length old.altered ≡ old.picture.rows → length run ≡ part.columns → 1 ≤ part.columns → part.left + part.columns ≤ old.picture.columns
     → ((j : ℕ) → j < part.columns → get_or run j blank_cell ≡ cells (part.row + k) (part.column + j))
     → line_copied (part.top + k) part.left run (part_copied (rows_of_part part k) lines cells old) ≡ part_copied (rows_of_part part (k + 1)) lines cells old
@@ -124,14 +124,14 @@ line_more laws part lines cells old k run taken row_in high altered_high wide so
     (λ i. joined_by (columns i) (range_before part lines unlike old.altered k (omega (arith, altered_high)) i)) in
     λ i. record old { picture = record old.picture { lines = grid i }; changed = ranges i; altered = altered i }
   where
-    copied_alike : (run : List CellView) (part : Part) (cells : ℕ → ℕ → CellView) (k c : ℕ) → part.left ≤ c → c < part.left + part.columns → ((j : ℕ) → j < part.columns → get_or run j blank_cell ≡ cells (part.row + k) (part.column + j))
+    copied_alike : (run : List CellView) (part : ShownPart) (cells : ℕ → ℕ → CellView) (k c : ℕ) → part.left ≤ c → c < part.left + part.columns → ((j : ℕ) → j < part.columns → get_or run j blank_cell ≡ cells (part.row + k) (part.column + j))
         → copied_cell part.left run c ≡ part_cell part cells (part.top + k) c
     copied_alike run part cells k c from end same =
         let there : part.row + k ≡ part.row + (part.top + k - part.top) = omega arith in
         same (c - part.left) (omega arith) ∙ ap (λ n. cells n (part.column + (c - part.left))) there
 
 -- a line that is not copied leaves all
-pub line_left : (part : Part) (lines : ℕ → Bool) (cells : ℕ → ℕ → CellView) (old : VirtualView) (k : ℕ) → lines (part.row + k) ≡ false
+pub line_left : (part : ShownPart) (lines : ℕ → Bool) (cells : ℕ → ℕ → CellView) (old : VirtualView) (k : ℕ) → lines (part.row + k) ≡ false
     → part_copied (rows_of_part part k) lines cells old ≡ part_copied (rows_of_part part (k + 1)) lines cells old
 unfolding part_copied
 line_left part lines cells old k left =
@@ -150,7 +150,7 @@ line_left part lines cells old k left =
     }
 
 -- nothing is copied where no row is
-pub copied_nowhere : GridLaws CellView → (part : Part) (lines : ℕ → Bool) (cells : ℕ → ℕ → CellView) (old : VirtualView) → IsGrid old.picture.rows old.picture.columns old.picture.lines
+pub copied_nowhere : GridLaws CellView → (part : ShownPart) (lines : ℕ → Bool) (cells : ℕ → ℕ → CellView) (old : VirtualView) → IsGrid old.picture.rows old.picture.columns old.picture.lines
     → ((r : ℕ) → is_copied part lines r ≡ false) → old ≡ part_copied part lines cells old
 unfolding part_copied
 copied_nowhere laws part lines cells old grid none =
@@ -162,7 +162,7 @@ copied_nowhere laws part lines cells old grid none =
     λ i. record old { picture = record old.picture { lines = lines_are i }; changed = ranges i; altered = altered i }
 
 -- no row is copied where no line is
-pub none_to_copy : GridLaws CellView → (part : Part) (lines : ℕ → Bool) (cells : ℕ → ℕ → CellView) (old : VirtualView) → IsGrid old.picture.rows old.picture.columns old.picture.lines
+pub none_to_copy : GridLaws CellView → (part : ShownPart) (lines : ℕ → Bool) (cells : ℕ → ℕ → CellView) (old : VirtualView) → IsGrid old.picture.rows old.picture.columns old.picture.lines
     → ((line : ℕ) → lines line ≡ false) → old ≡ part_copied part lines cells old
 none_to_copy laws part lines cells old grid none =
     copied_nowhere laws part lines cells old grid (λ r. left (leb part.top r) (ltb r (part.top + part.rows)) (lines (part.row + (r - part.top))) (none (part.row + (r - part.top))))
@@ -173,7 +173,7 @@ none_to_copy laws part lines cells old grid none =
     left false b t e = refl
 
 -- nothing is copied yet
-pub none_copied : GridLaws CellView → (part : Part) (lines : ℕ → Bool) (cells : ℕ → ℕ → CellView) (old : VirtualView) → IsGrid old.picture.rows old.picture.columns old.picture.lines
+pub none_copied : GridLaws CellView → (part : ShownPart) (lines : ℕ → Bool) (cells : ℕ → ℕ → CellView) (old : VirtualView) → IsGrid old.picture.rows old.picture.columns old.picture.lines
     → old ≡ part_copied (rows_of_part part 0) lines cells old
 unfolding part_copied
 none_copied laws part lines cells old grid =
@@ -182,7 +182,7 @@ none_copied laws part lines cells old grid =
     same
 
 -- cells that agree in the part are copied alike
-pub cells_same : (part : Part) (lines : ℕ → Bool) (f g : ℕ → ℕ → CellView) (old : VirtualView)
+pub cells_same : (part : ShownPart) (lines : ℕ → Bool) (f g : ℕ → ℕ → CellView) (old : VirtualView)
     → ((r c : ℕ) → r < part.row + part.rows → c < part.column + part.columns → f r c ≡ g r c) → part_copied part lines f old ≡ part_copied part lines g old
 unfolding part_copied
 cells_same part lines f g old same =

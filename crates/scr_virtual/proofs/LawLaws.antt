@@ -14,7 +14,7 @@ use Rattle.scr_windows.specs.Calls.Settings.{with_state}
 use Rattle.scr_windows.specs.Calls.Touching.{take_lines_call}
 use Rattle.scr_windows.specs.Changes.{index_of, marked, on_window, with_window}
 use Rattle.scr_windows.specs.DeskViews.{DeskView, WindowView, window_at}
-use Rattle.scr_virtual.specs.declared.parts.Part.{Part}
+use Rattle.scr_virtual.specs.declared.parts.ShownPart.{ShownPart}
 use Rattle.scr_virtual.specs.Laws.{HoldsChanges, IsOutside, OutsideStays, RangesHoldChanges, SameSizes, SizesStay, UntouchedChangesNothing, cell_at}
 use Rattle.scr_virtual.specs.Pairs.{is_no_colour, set_pair_of_call, with_pair}
 use Rattle.scr_virtual.specs.Taking.{columns_unlike, is_copied, on_ok, pad_part, part_at, part_call, part_cell, part_copied, part_taken, take_pad_call, take_window_call, taken, touched_line, window_part}
@@ -25,11 +25,11 @@ use Rattle.scr_virtual.proofs.RangeLaws.{Range, range_of}
 use Rattle.scr_virtual.proofs.UnlikeLaws.{all_grow, joined_grows, outside_is_same}
 
 -- what holds where the call is refused and where a part is taken holds after the call
-call_holds : (v : VirtualView) (desk : DeskView) (win : ℕ) (part_of : WindowView → Result Part WinFault) (lines : WindowView → ℕ → Bool) (P : VirtualView × DeskView → Type 0) → P (v, desk)
-    → ((i : ℕ) (part : Part) → index_of desk win ≡ Ok i → part_of (window_at desk i) ≡ Ok part → P (taken v desk win i part (lines (window_at desk i)))) → P (part_call v desk win part_of lines).0
+call_holds : (v : VirtualView) (desk : DeskView) (win : ℕ) (part_of : WindowView → Result ShownPart WinFault) (lines : WindowView → ℕ → Bool) (P : VirtualView × DeskView → Type 0) → P (v, desk)
+    → ((i : ℕ) (part : ShownPart) → index_of desk win ≡ Ok i → part_of (window_at desk i) ≡ Ok part → P (taken v desk win i part (lines (window_at desk i)))) → P (part_call v desk win part_of lines).0
 call_holds v desk win part_of lines P stays takes = by_index (index_of desk win) refl
   where
-    by_part : (i : ℕ) → index_of desk win ≡ Ok i → (o : Result Part WinFault) → part_of (window_at desk i) ≡ o → P (on_ok v desk o (λ part. (taken v desk win i part (lines (window_at desk i)), Ok tt))).0
+    by_part : (i : ℕ) → index_of desk win ≡ Ok i → (o : Result ShownPart WinFault) → part_of (window_at desk i) ≡ o → P (on_ok v desk o (λ part. (taken v desk win i part (lines (window_at desk i)), Ok tt))).0
     by_part i found (Err fault) e = stays
     by_part i found (Ok part) e = takes i part found e
 
@@ -67,19 +67,19 @@ outside_joined left columns c (Some range) e = some left columns range.0 range.1
     some left columns a b c e = grind (arith, nat_tests)
 
 -- the cell of a place after a part was taken
-cell_taken : GridLaws CellView → (v : VirtualView) (part : Part) (lines : ℕ → Bool) (cells : ℕ → ℕ → CellView) (state : WindowState) (r c : ℕ) → r < v.picture.rows → c < v.picture.columns
+cell_taken : GridLaws CellView → (v : VirtualView) (part : ShownPart) (lines : ℕ → Bool) (cells : ℕ → ℕ → CellView) (state : WindowState) (r c : ℕ) → r < v.picture.rows → c < v.picture.columns
     → cell_at (part_taken part lines cells state v) r c ≡ cond (is_copied part lines r && leb part.left c && ltb c (part.left + part.columns)) (part_cell part cells r c) (cell_at v r c)
 unfolding part_copied
 cell_taken laws v part lines cells state r c h b =
     laws.formula blank_cell v.picture.rows v.picture.columns (λ r c. cond (is_copied part lines r && leb part.left c && ltb c (part.left + part.columns)) (cells (part.row + (r - part.top)) (part.column + (c - part.left))) (cell_at v r c)) r c h b
 
 -- what becomes of a row's range when a part is taken: it loses no column, and outside it every place of the part has its cell already
-record Covers (v : VirtualView) (part : Part) (cells : ℕ → ℕ → CellView) (f : ℕ → Range → Range) : Type 0 where
+record Covers (v : VirtualView) (part : ShownPart) (cells : ℕ → ℕ → CellView) (f : ℕ → Range → Range) : Type 0 where
   grows : (r c : ℕ) (range : Range) → in_range range c ≡ true → in_range (f r range) c ≡ true
   same : (r c : ℕ) (range : Range) → in_range (f r range) c ≡ false → (leb part.left c && ltb c (part.left + part.columns)) ≡ true → part_cell part cells r c ≡ cell_at v r c
 
 -- all columns of the part
-all_cover : (v : VirtualView) (part : Part) (cells : ℕ → ℕ → CellView) → Covers v part cells (λ _. joined (Some (part.left, part.left + part.columns - 1)))
+all_cover : (v : VirtualView) (part : ShownPart) (cells : ℕ → ℕ → CellView) → Covers v part cells (λ _. joined (Some (part.left, part.left + part.columns - 1)))
 all_cover v part cells = record {
   grows = λ r c range. joined_grows (Some (part.left, part.left + part.columns - 1)) range c;
   same = λ r c range out is. absurd (nowhere (sym is ∙ outside_joined part.left part.columns c range out));
@@ -89,7 +89,7 @@ all_cover v part cells = record {
     nowhere e = (let z : ⊥ = (cc) in z)
 
 -- those that get another cell
-unlike_cover : (v : VirtualView) (part : Part) (cells : ℕ → ℕ → CellView) → Covers v part cells (λ r. joined_by (columns_unlike (cell_at v r) (part_cell part cells r) part.left part.columns))
+unlike_cover : (v : VirtualView) (part : ShownPart) (cells : ℕ → ℕ → CellView) → Covers v part cells (λ r. joined_by (columns_unlike (cell_at v r) (part_cell part cells r) part.left part.columns))
 unlike_cover v part cells = record {
   grows = λ r c range. all_grow (columns_unlike (cell_at v r) (part_cell part cells r) part.left part.columns) range c;
   same = λ r c range out is. outside_is_same (cell_at v r) (part_cell part cells r) part.left part.columns c range (from part.left part.columns c is) (to part.left part.columns c is) out;
@@ -102,7 +102,7 @@ unlike_cover v part cells = record {
     to left columns c e = grind (arith, nat_tests)
 
 -- then a place outside the new range of its row has the cell that it had
-cells_held : GridLaws CellView → (v : VirtualView) (part : Part) (lines : ℕ → Bool) (cells : ℕ → ℕ → CellView) (state : WindowState) (f : ℕ → Range → Range) (ranges : List Range) → Covers v part cells f → length ranges ≡ v.picture.rows
+cells_held : GridLaws CellView → (v : VirtualView) (part : ShownPart) (lines : ℕ → Bool) (cells : ℕ → ℕ → CellView) (state : WindowState) (f : ℕ → Range → Range) (ranges : List Range) → Covers v part cells f → length ranges ≡ v.picture.rows
     → (r c : ℕ) → r < v.picture.rows → c < v.picture.columns → in_range (get_or (ranges_with (is_copied part lines) f ranges) r None) c ≡ false → cell_at (part_taken part lines cells state v) r c ≡ cell_at v r c
 cells_held laws v part lines cells state f ranges covers many r c h b out =
     cell_taken laws v part lines cells state r c h b
@@ -115,7 +115,7 @@ cells_held laws v part lines cells state f ranges covers many r c h b out =
     kept true new was false v x y e same = refl
     kept false new was u v x y e same = refl
 
-taking_holds : GridLaws CellView → (v : VirtualView) (part : Part) (lines : ℕ → Bool) (cells : ℕ → ℕ → CellView) (state : WindowState) → IsVirtual v → HoldsChanges v (part_taken part lines cells state v)
+taking_holds : GridLaws CellView → (v : VirtualView) (part : ShownPart) (lines : ℕ → Bool) (cells : ℕ → ℕ → CellView) (state : WindowState) → IsVirtual v → HoldsChanges v (part_taken part lines cells state v)
 unfolding part_copied
 taking_holds laws v part lines cells state is =
     let all : ℕ → Range → Range = λ _. joined (Some (part.left, part.left + part.columns - 1)) in
@@ -228,7 +228,7 @@ pub holding : GridLaws CellView → RangesHoldChanges
 holding laws = record { window = window_holds laws; pad = pad_holds laws; pair = setting_holds; mark = marking_holds; settle = λ v r. (none_left (length v.changed) r, none_left (length v.altered) r) }
 
 -- a place outside a part that is taken
-part_outside : GridLaws CellView → (v : VirtualView) (part : Part) (lines : ℕ → Bool) (cells : ℕ → ℕ → CellView) (state : WindowState) (r c : ℕ) → r < v.picture.rows → c < v.picture.columns → IsOutside part.top part.left part.rows part.columns r c
+part_outside : GridLaws CellView → (v : VirtualView) (part : ShownPart) (lines : ℕ → Bool) (cells : ℕ → ℕ → CellView) (state : WindowState) (r c : ℕ) → r < v.picture.rows → c < v.picture.columns → IsOutside part.top part.left part.rows part.columns r c
     → cell_at (part_taken part lines cells state v) r c ≡ cell_at v r c
 part_outside laws v part lines cells state r c h b out =
     cell_taken laws v part lines cells state r c h b ∙ kept part.top part.left part.rows part.columns r c (lines (part.row + (r - part.top))) _ _ out
@@ -250,13 +250,13 @@ window_outside laws v desk win i place r c here origin h b out =
     let same : i ≡ k = ok_is i k (index_of desk win) here found in
     let P : ℕ → Type 0 = λ n. IsOutside place.0 place.1 (window_at desk n).frame.area.rows (window_at desk n).frame.area.columns r c in
     let there : (window_at desk k).frame.origin ≡ Some place = ap (λ n. (window_at desk n).frame.origin) (sym same) ∙ origin in
-    let whole : Part = record { row = 0; column = 0; rows = (window_at desk k).frame.area.rows; columns = (window_at desk k).frame.area.columns; top = place.0; left = place.1 } in
+    let whole : ShownPart = record { row = 0; column = 0; rows = (window_at desk k).frame.area.rows; columns = (window_at desk k).frame.area.columns; top = place.0; left = place.1 } in
     let is : whole ≡ part = ok_is whole part (window_part (window_at desk k)) (ap (part_at (window_at desk k).frame.area) there) e in
-    let Q : Part → Type 0 = λ p. IsOutside p.top p.left p.rows p.columns r c in
+    let Q : ShownPart → Type 0 = λ p. IsOutside p.top p.left p.rows p.columns r c in
     part_outside laws v part (touched_line (window_at desk k)) (at desk k) (window_at desk k).state r c h b (subst Q is (subst P same out)))
 
 -- what a pad's part is where nothing is refused
-part_is : (a b c d : Bool) (made part : Part) → cond a (Err NotPad) (cond b (Err OffScreen) (cond c (Err OutOfWindow) (cond d (Err OffScreen) (Ok made)))) ≡ Ok part → made ≡ part
+part_is : (a b c d : Bool) (made part : ShownPart) → cond a (Err NotPad) (cond b (Err OffScreen) (cond c (Err OutOfWindow) (cond d (Err OffScreen) (Ok made)))) ≡ Ok part → made ≡ part
 part_is true b c d made part e = absurd (let z : ⊥ = (cc) in z)
 part_is false true c d made part e = absurd (let z : ⊥ = (cc) in z)
 part_is false false true d made part e = absurd (let z : ⊥ = (cc) in z)
@@ -268,8 +268,8 @@ pad_outside : GridLaws CellView → (v : VirtualView) (desk : DeskView) (win row
 unfolding take_pad_call pad_part
 pad_outside laws v desk win row column top left bottom right r c h b out =
     call_holds v desk win (pad_part desk.rows desk.columns row column top left bottom right) (λ _ _. true) (λ (x : VirtualView × DeskView). cell_at x.0 r c ≡ cell_at v r c) refl (λ k part found e.
-    let made : Part = record { row = row; column = column; rows = bottom + 1 - top; columns = right + 1 - left; top = top; left = left } in
-    let Q : Part → Type 0 = λ p. IsOutside p.top p.left p.rows p.columns r c in
+    let made : ShownPart = record { row = row; column = column; rows = bottom + 1 - top; columns = right + 1 - left; top = top; left = left } in
+    let Q : ShownPart → Type 0 = λ p. IsOutside p.top p.left p.rows p.columns r c in
     part_outside laws v part (λ _. true) (at desk k) (window_at desk k).state r c h b (subst Q (part_is _ _ _ _ made part e) out))
 
 pub leaving : GridLaws CellView → OutsideStays
@@ -309,7 +309,7 @@ lines_keep_size desk win first n = by_index (index_of desk win)
 same_sizes : (v : VirtualView) (desk : DeskView) → SameSizes (v, desk) (v, desk)
 same_sizes v desk = record { rows = refl; columns = refl; desk_rows = refl; desk_columns = refl }
 
-taken_sizes : (v : VirtualView) (desk : DeskView) (win i : ℕ) (part : Part) (lines : ℕ → Bool) → SameSizes (v, desk) (taken v desk win i part lines)
+taken_sizes : (v : VirtualView) (desk : DeskView) (win i : ℕ) (part : ShownPart) (lines : ℕ → Bool) → SameSizes (v, desk) (taken v desk win i part lines)
 unfolding part_copied
 taken_sizes v desk win i part lines = let kept = lines_keep_size desk win part.row part.rows in record { rows = refl; columns = refl; desk_rows = kept.0; desk_columns = kept.1 }
 

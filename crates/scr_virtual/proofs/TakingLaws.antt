@@ -19,7 +19,7 @@ use Rattle.scr_windows.specs.Changes.{index_of, marked, on_window, with_window}
 use Rattle.scr_windows.specs.DeskViews.{DeskView, IsDesk, IsThere, WindowView, surface_at, window_at}
 use Rattle.scr_windows.specs.Laws.{WindowsArePlaced}
 use Rattle.scr_windows.specs.Lending.{LentView}
-use Rattle.scr_virtual.specs.declared.parts.Part.{Part}
+use Rattle.scr_virtual.specs.declared.parts.ShownPart.{ShownPart}
 use Rattle.scr_virtual.specs.Code.Lines.{IsInside, IsShown, copied_lines, lent_at, line_copied, part_line, shown}
 use Rattle.scr_virtual.specs.Taking.{on_ok, part_at, part_call, part_copied, part_taken, taken, window_part, wish_of}
 use Rattle.scr_virtual.specs.VirtualViews.{IsVirtual, VirtualView}
@@ -48,7 +48,7 @@ not_lent desk win fault e = missing (index_of desk win) (contents desk) fault e
     missing (Ok i) f fault e = absurd (let z : ⊥ = (cc) in z)
 
 -- what a lent window shows is the desk's
-pub lent_copied : GridLaws CellView → (desk : DeskView) (win : ℕ) (lent : LentView) (l : Lends desk win lent) (part : Part) (lines : ℕ → Bool) (v : VirtualView) → part.row + part.rows ≤ lent.window.frame.area.rows → part.column + part.columns ≤ lent.window.frame.area.columns → part_copied part lines (lent_at lent) v ≡ part_copied part lines (at desk l.index) v
+pub lent_copied : GridLaws CellView → (desk : DeskView) (win : ℕ) (lent : LentView) (l : Lends desk win lent) (part : ShownPart) (lines : ℕ → Bool) (v : VirtualView) → part.row + part.rows ≤ lent.window.frame.area.rows → part.column + part.columns ≤ lent.window.frame.area.columns → part_copied part lines (lent_at lent) v ≡ part_copied part lines (at desk l.index) v
 lent_copied laws desk win lent l part lines v rows columns =
     let area : Area = (window_at desk l.index).frame.area in
     let high = ap (λ (w : LentView). w.window.frame.area.rows) l.is in
@@ -74,14 +74,14 @@ untouched desk win lent any answer is none =
     ∙ sym is ∙ none
 
 -- the part is still inside after lines of it were copied
-pub still_shown : (v new : VirtualView) (lent : LentView) (part some : Part) (lines : ℕ → Bool) (cells : ℕ → ℕ → CellView) → IsShown v lent part → new ≡ part_copied some lines cells v → IsShown new lent part
+pub still_shown : (v new : VirtualView) (lent : LentView) (part some : ShownPart) (lines : ℕ → Bool) (cells : ℕ → ℕ → CellView) → IsShown v lent part → new ≡ part_copied some lines cells v → IsShown new lent part
 unfolding part_copied
 still_shown v new lent part some lines cells h is =
     let P : VirtualView → Type 0 = λ w. IsShown w lent part in
     subst P (sym is) (record { some = h.some; lines = h.lines; columns_of = h.columns_of; bottom = h.bottom; right = h.right })
 
 -- as far as the lines are copied, one more is, or is left
-pub line_taken : GridLaws CellView → (old now new : VirtualView) (lent : LentView) (part : Part) (all : Bool) (k : ℕ) → IsVirtual old → IsShown old lent part → now ≡ part_copied (rows_of_part part k) (copied_lines all lent) (lent_at lent) old
+pub line_taken : GridLaws CellView → (old now new : VirtualView) (lent : LentView) (part : ShownPart) (all : Bool) (k : ℕ) → IsVirtual old → IsShown old lent part → now ≡ part_copied (rows_of_part part k) (copied_lines all lent) (lent_at lent) old
     → k < part.rows → copied_lines all lent (part.row + k) ≡ true → length (part_line lent part k) ≡ part.columns → new ≡ line_copied (part.top + k) part.left (part_line lent part k) now
     → new ≡ part_copied (rows_of_part part (k + 1)) (copied_lines all lent) (lent_at lent) old
 line_taken laws old now new lent part all k h inside now_is row_in taken width new_is =
@@ -90,7 +90,7 @@ line_taken laws old now new lent part all k h inside now_is row_in taken width n
     get_or-take part.columns (drop part.column (grid_row lent.lines (part.row + k))) j blank_cell b ∙ get_or-drop part.column (grid_row lent.lines (part.row + k)) j blank_cell)
 
 -- a whole window is shown where it is
-pub window_shown : WindowsArePlaced → (desk : DeskView) (win : ℕ) (lent : LentView) (v : VirtualView) (part : Part) → IsDesk desk → desk.rows ≡ v.picture.rows → desk.columns ≡ v.picture.columns → Ok lent ≡ window_answer desk win
+pub window_shown : WindowsArePlaced → (desk : DeskView) (win : ℕ) (lent : LentView) (v : VirtualView) (part : ShownPart) → IsDesk desk → desk.rows ≡ v.picture.rows → desk.columns ≡ v.picture.columns → Ok lent ≡ window_answer desk win
     → Ok part ≡ window_part lent.window → IsShown v lent part
 window_shown placed desk win lent v part h high wide answer part_is =
     let l : Lends desk win lent = lends desk win lent answer in
@@ -99,7 +99,7 @@ window_shown placed desk win lent v part h high wide answer part_is =
     let place = placed_part area (window_at desk l.index).frame.origin part (part_is ∙ ap (λ (w : LentView). window_part w.window) l.is) in
     let P : Option (ℕ × ℕ) → Type 0 = λ o. MatchOption o (Unit {0}) (λ p. (p.0 + area.rows ≤ desk.rows) × (p.1 + area.columns ≤ desk.columns)) in
     let on : (place.0.0 + area.rows ≤ desk.rows) × (place.0.1 + area.columns ≤ desk.columns) = subst P place.1 there.origin in
-    let Q : Part → Type 0 = λ p. IsShown v lent p in
+    let Q : ShownPart → Type 0 = λ p. IsShown v lent p in
     let same_rows = ap (λ (w : LentView). w.window.frame.area.rows) l.is in
     let same_columns = ap (λ (w : LentView). w.window.frame.area.columns) l.is in
     subst Q (sym place.2) (record {
@@ -110,12 +110,12 @@ window_shown placed desk win lent v part h high wide answer part_is =
       right = omega (arith, on.1, wide);
     })
   where
-    placed_part : (area : Area) (o : Option (ℕ × ℕ)) (part : Part) → Ok part ≡ part_at area o → (place : ℕ × ℕ) × (o ≡ Some place) × (part ≡ record { row = 0; column = 0; rows = area.rows; columns = area.columns; top = place.0; left = place.1 })
+    placed_part : (area : Area) (o : Option (ℕ × ℕ)) (part : ShownPart) → Ok part ≡ part_at area o → (place : ℕ × ℕ) × (o ≡ Some place) × (part ≡ record { row = 0; column = 0; rows = area.rows; columns = area.columns; top = place.0; left = place.1 })
     placed_part area None part e = absurd (let z : ⊥ = (cc) in z)
     placed_part area (Some place) part e = (place, refl, (cc))
 
 -- a part of a pad is shown on a screen of the same size
-pub pad_shown : (rows columns : ℕ) (lent : LentView) (v : VirtualView) (part : Part) → rows ≡ v.picture.rows → columns ≡ v.picture.columns → IsInside rows columns lent part → IsShown v lent part
+pub pad_shown : (rows columns : ℕ) (lent : LentView) (v : VirtualView) (part : ShownPart) → rows ≡ v.picture.rows → columns ≡ v.picture.columns → IsInside rows columns lent part → IsShown v lent part
 pad_shown rows columns lent v part high wide h = record { some = h.some; lines = h.lines; columns_of = h.columns_of; bottom = omega (arith, h.bottom, high); right = omega (arith, h.right, wide) }
 
 at_index : {A : Type 0} (desk : DeskView) (o : Result ℕ WinFault) (i : ℕ) (f : ℕ → DeskView × Result A WinFault) → o ≡ Ok i → on_window desk o f ≡ f i
@@ -135,11 +135,11 @@ lines_answer desk win i first n found fits =
     ∙ chosen (leb (first + n) w.frame.area.rows) (with_state (with_window desk i (marked first (first + n) false w)) i (record w.state { clear_ok = false }), Ok w.state.clear_ok) (desk, Err OutOfWindow) inside)
 
 -- a window that is not there, or a part that is refused
-pub not_there : (v : VirtualView) (desk : DeskView) (win : ℕ) (fault : WinFault) (part_of : WindowView → Result Part WinFault) (lines : WindowView → ℕ → Bool) → Err fault ≡ window_answer desk win → ((v, desk), Err fault) ≡ part_call v desk win part_of lines
+pub not_there : (v : VirtualView) (desk : DeskView) (win : ℕ) (fault : WinFault) (part_of : WindowView → Result ShownPart WinFault) (lines : WindowView → ℕ → Bool) → Err fault ≡ window_answer desk win → ((v, desk), Err fault) ≡ part_call v desk win part_of lines
 not_there v desk win fault part_of lines answer =
     sym (ap (λ o. on_ok v desk o (λ i. on_ok v desk (part_of (window_at desk i)) (λ part. (taken v desk win i part (lines (window_at desk i)), Ok tt)))) (not_lent desk win fault answer))
 
-pub no_part : (v : VirtualView) (desk : DeskView) (win : ℕ) (lent : LentView) (fault : WinFault) (part_of : WindowView → Result Part WinFault) (lines : WindowView → ℕ → Bool) → Ok lent ≡ window_answer desk win → Err fault ≡ part_of lent.window
+pub no_part : (v : VirtualView) (desk : DeskView) (win : ℕ) (lent : LentView) (fault : WinFault) (part_of : WindowView → Result ShownPart WinFault) (lines : WindowView → ℕ → Bool) → Ok lent ≡ window_answer desk win → Err fault ≡ part_of lent.window
     → ((v, desk), Err fault) ≡ part_call v desk win part_of lines
 no_part v desk win lent fault part_of lines answer refused =
     let l : Lends desk win lent = lends desk win lent answer in
@@ -147,7 +147,7 @@ no_part v desk win lent fault part_of lines answer refused =
     ∙ ap (λ o. on_ok v desk o (λ part. (taken v desk win l.index part (lines (window_at desk l.index)), Ok tt))) (sym (refused ∙ ap (λ (w : LentView). part_of w.window) l.is)))
 
 -- the screen after a part was shown and the window's wish to paint anew was answered
-pub part_is_taken : GridLaws CellView → (desk desk2 : DeskView) (win : ℕ) (lent : LentView) (v v1 v2 : VirtualView) (part : Part) (part_of : WindowView → Result Part WinFault) (lines : WindowView → ℕ → Bool) (all : Bool) → Ok lent ≡ window_answer desk win
+pub part_is_taken : GridLaws CellView → (desk desk2 : DeskView) (win : ℕ) (lent : LentView) (v v1 v2 : VirtualView) (part : ShownPart) (part_of : WindowView → Result ShownPart WinFault) (lines : WindowView → ℕ → Bool) (all : Bool) → Ok lent ≡ window_answer desk win
     → Ok part ≡ part_of lent.window → IsShown v lent part → ((window : WindowView) (line : ℕ) → (all || get_or window.touched line false) ≡ lines window line)
     → v1 ≡ shown part (copied_lines all lent) (lent_at lent) lent.window.state v
     → ((i : ℕ) → index_of desk win ≡ Ok i → part.row + part.rows ≤ (window_at desk i).frame.area.rows → v2 ≡ record v1 { repaint = v1.repaint || (window_at desk i).state.clear_ok })

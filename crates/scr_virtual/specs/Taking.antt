@@ -13,16 +13,16 @@ use Rattle.scr_windows.specs.DeskViews.{DeskView, WindowView, window_at}
 use Rattle.scr_windows.specs.Changes.{index_of}
 use Rattle.scr_windows.specs.Calls.Reading.{at}
 use Rattle.scr_windows.specs.Calls.Touching.{take_lines_call}
-use Rattle.scr_virtual.specs.declared.parts.Part.{Part}
+use Rattle.scr_virtual.specs.declared.parts.ShownPart.{ShownPart}
 use Rattle.scr_virtual.specs.Ranges.{joined, joined_by, ranges_with}
 use Rattle.scr_virtual.specs.VirtualViews.{VirtualView}
 
 -- Row r of the screen shows a line of the part that is copied.
-abbrev pub is_copied : Part → (ℕ → Bool) → ℕ → Bool
+abbrev pub is_copied : ShownPart → (ℕ → Bool) → ℕ → Bool
 is_copied part lines r = leb part.top r && ltb r (part.top + part.rows) && lines (part.row + (r - part.top))
 
 -- The cell that a place of the screen gets from the part.
-abbrev pub part_cell : Part → (ℕ → ℕ → CellView) → ℕ → ℕ → CellView
+abbrev pub part_cell : ShownPart → (ℕ → ℕ → CellView) → ℕ → ℕ → CellView
 part_cell part cells r c = cells (part.row + (r - part.top)) (part.column + (c - part.left))
 
 -- Two cells are the same.
@@ -35,7 +35,7 @@ columns_unlike old new from n = filter (λ c. not (cell_eq (old c) (new c))) (ra
 
 -- Some lines of a window's part are copied to where the part is shown: the places there have the window's cells, all
 -- others keep theirs. The columns copied to have changed; of these, the ones with a different cell may look different.
-unfoldable pub part_copied : Part → (ℕ → Bool) → (ℕ → ℕ → CellView) → VirtualView → VirtualView
+unfoldable pub part_copied : ShownPart → (ℕ → Bool) → (ℕ → ℕ → CellView) → VirtualView → VirtualView
 part_copied part lines cells virtual = record virtual {
   picture = record virtual.picture {
     lines = grid_of virtual.picture.rows virtual.picture.columns (λ r c.
@@ -47,26 +47,26 @@ part_copied part lines cells virtual = record virtual {
 }
 
 -- The place of the window lies in the part.
-abbrev pub is_shown : Part → ℕ × ℕ → Bool
+abbrev pub is_shown : ShownPart → ℕ × ℕ → Bool
 is_shown part place = leb part.row place.0 && ltb place.0 (part.row + part.rows) && leb part.column place.1 && ltb place.1 (part.column + part.columns)
 
 -- Where a place of the window is shown on the screen, if it lies in the part.
-abbrev pub shown_place : Part → ℕ × ℕ → Option (ℕ × ℕ)
+abbrev pub shown_place : ShownPart → ℕ × ℕ → Option (ℕ × ℕ)
 shown_place part place = if is_shown part place then Some (part.top + (place.0 - part.row), part.left + (place.1 - part.column)) else None
 
 -- The cursor wish: where the window's cursor is shown, or none if it is not shown or the window sets `leave_ok`.
-abbrev pub wish_of : Part → WindowState → Option (ℕ × ℕ)
+abbrev pub wish_of : ShownPart → WindowState → Option (ℕ × ℕ)
 wish_of part state = if state.leave_ok then None else shown_place part state.cursor
 
 -- The virtual screen after some lines of a part were copied: the cursor wish is the window's, and the screen is to be
 -- repainted if that was requested before or the window sets `clear_ok`.
-abbrev pub part_taken : Part → (ℕ → Bool) → (ℕ → ℕ → CellView) → WindowState → VirtualView → VirtualView
+abbrev pub part_taken : ShownPart → (ℕ → Bool) → (ℕ → ℕ → CellView) → WindowState → VirtualView → VirtualView
 part_taken part lines cells state virtual =
     let copied : VirtualView = part_copied part lines cells virtual in
     record copied { picture = record copied.picture { wish = wish_of part state }; repaint = virtual.repaint || state.clear_ok }
 
 -- The same for a window of a desk; the part's lines are then no longer touched, and its request to repaint is done.
-abbrev pub taken : VirtualView → DeskView → ℕ → ℕ → Part → (ℕ → Bool) → VirtualView × DeskView
+abbrev pub taken : VirtualView → DeskView → ℕ → ℕ → ShownPart → (ℕ → Bool) → VirtualView × DeskView
 taken virtual desk win i part lines = (part_taken part lines (at desk i) (window_at desk i).state virtual, (take_lines_call desk win part.row part.rows).0)
 
 -- A refused step changes nothing; otherwise the call continues with the answer.
@@ -75,17 +75,17 @@ on_ok virtual desk (Err fault) f = ((virtual, desk), Err fault)
 on_ok virtual desk (Ok answer) f = f answer
 
 -- Copies some lines of a window's part; refused if the window is unknown or there is no such part.
-abbrev pub part_call : VirtualView → DeskView → ℕ → (WindowView → Result Part WinFault) → (WindowView → ℕ → Bool) → (VirtualView × DeskView) × Result (Unit {0}) WinFault
+abbrev pub part_call : VirtualView → DeskView → ℕ → (WindowView → Result ShownPart WinFault) → (WindowView → ℕ → Bool) → (VirtualView × DeskView) × Result (Unit {0}) WinFault
 part_call virtual desk win part_of lines =
     on_ok virtual desk (index_of desk win) (λ i. on_ok virtual desk (part_of (window_at desk i)) (λ part. (taken virtual desk win i part (lines (window_at desk i)), Ok tt)))
 
 -- A whole window at its place on the screen; a pad has none.
-abbrev pub part_at : Area → Option (ℕ × ℕ) → Result Part WinFault
+abbrev pub part_at : Area → Option (ℕ × ℕ) → Result ShownPart WinFault
 part_at area None = Err IsPad
 part_at area (Some place) = Ok (record { row = 0; column = 0; rows = area.rows; columns = area.columns; top = place.0; left = place.1 })
 
 -- The part that is a whole window.
-abbrev pub window_part : WindowView → Result Part WinFault
+abbrev pub window_part : WindowView → Result ShownPart WinFault
 window_part window = part_at window.frame.area window.frame.origin
 
 -- The line is touched.
@@ -98,7 +98,7 @@ take_window_call virtual desk win = part_call virtual desk win window_part touch
 
 -- The part of a pad from (row, column) on that a rectangle of the screen shows. The corners must be in order, the part
 -- in the pad, and the rectangle on the screen.
-unfoldable pub pad_part : ℕ → ℕ → (row column top left bottom right : ℕ) → WindowView → Result Part WinFault
+unfoldable pub pad_part : ℕ → ℕ → (row column top left bottom right : ℕ) → WindowView → Result ShownPart WinFault
 pad_part rows columns row column top left bottom right window =
     if is_some window.frame.origin then Err NotPad
     else if ltb bottom top || ltb right left then Err OffScreen

@@ -3,7 +3,7 @@
 /// A part of a window that is shown on the screen: the line and the column of the window where it begins, how many rows
 /// and columns it has, and the row and the column of the screen that show its first place.
 #[derive(Clone, Copy)]
-pub struct Part {
+pub struct ShownPart {
     /// The first line of the window that is shown.
     pub row: u32,
     /// The first column of the window that is shown.

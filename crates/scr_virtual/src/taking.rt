@@ -8,7 +8,7 @@ ghost use Rattle.scr_virtual.specs.Taking.{pad_part, part_copied, shown_place, t
 ghost use Rattle.scr_virtual.specs.Ranges.{IsRange, joined, joined_by};
 ghost use Rattle.scr_virtual.specs.Code.Lines.{IsInside, IsShown, copied_lines, lent_at, line_copied, line_unlike, part_line, shown};
 
-use crate::parts::Part;
+use crate::parts::ShownPart;
 use crate::screens::Virtual;
 use scr_cells::{Cell, Size, first_difference, grid_laws, last_difference};
 use scr_windows::{Desk, Win, WinFault, WindowRef, windows_are_placed};
@@ -71,7 +71,7 @@ impl Virtual {
     }
 
     // Copies lines of a part of a window, all of them or the touched ones, and sets where the cursor is wanted.
-    fn show(&mut self, window: &WindowRef, part: Part, all: bool)
+    fn show(&mut self, window: &WindowRef, part: ShownPart, all: bool)
         requires { IsShown self.old window.now part }
         ensures { self.new ≡ shown part (copied_lines all window.now) (lent_at window.now) window.now.window.state self.old }
     {
@@ -80,7 +80,7 @@ impl Virtual {
     }
 
     // Copies the touched lines of a part of a window. They are looked for only if there may be any.
-    fn copy_touched(&mut self, window: &WindowRef, part: Part, any: bool)
+    fn copy_touched(&mut self, window: &WindowRef, part: ShownPart, any: bool)
         requires shown { IsShown self.old window.now part }
         requires none { any ≡ false → list_any (λ mark. mark) window.now.window.touched ≡ false }
         ensures { self.new ≡ part_copied part (copied_lines false window.now) (lent_at window.now) self.old }
@@ -94,7 +94,7 @@ impl Virtual {
     }
 
     // Sets where the cursor is wanted: where that of a window is shown in a part, if it is.
-    fn wish(&mut self, window: &WindowRef, part: Part)
+    fn wish(&mut self, window: &WindowRef, part: ShownPart)
         requires { IsShown self.old window.now part }
         ensures { self.new ≡ record self.old { picture = record self.old.picture { wish = wish_of part window.now.window.state } } }
     {
@@ -110,7 +110,7 @@ impl Virtual {
     }
 
     // Copies lines of a part of a window to where it is shown.
-    fn copy_lines(&mut self, window: &WindowRef, part: Part, all: bool)
+    fn copy_lines(&mut self, window: &WindowRef, part: ShownPart, all: bool)
         requires { IsShown self.old window.now part }
         ensures { self.new ≡ part_copied part (copied_lines all window.now) (lent_at window.now) self.old }
     {
@@ -126,7 +126,7 @@ impl Virtual {
     }
 
     // Copies a line of a part of a window to where it is shown.
-    fn copy_part_line(&mut self, window: &WindowRef, part: Part, row: u32)
+    fn copy_part_line(&mut self, window: &WindowRef, part: ShownPart, row: u32)
         requires shown { IsShown self.old window.now part }
         requires row { row < part.rows }
         ensures copied { self.new ≡ line_copied (part.top + row) part.left (part_line window.now part row) self.old }
@@ -176,7 +176,7 @@ impl Virtual {
     }
 
     // Makes the lines of a part of a window on a desk untouched, and takes over its request to repaint.
-    fn take_lines(&mut self, desk: &mut Desk, win: Win, part: Part)
+    fn take_lines(&mut self, desk: &mut Desk, win: Win, part: ShownPart)
         ensures desk { desk.new ≡ (take_lines_call desk.old win.0 part.row part.rows).0 }
         ensures screen { (i : ℕ) → index_of desk.old win.0 ≡ Ok i → part.row + part.rows ≤ (window_at desk.old i).frame.area.rows → self.new ≡ record self.old { repaint = self.old.repaint || (window_at desk.old i).state.clear_ok } }
     {
@@ -185,14 +185,14 @@ impl Virtual {
 }
 
 // The whole of a window, at its place on the screen.
-fn window_part(window: &WindowRef) -> Result<Part, WinFault>
+fn window_part(window: &WindowRef) -> Result<ShownPart, WinFault>
     ensures { result ≡ window_part window.now.window }
 {
     let Some((top, left)) = window.origin() else {
         return Err(WinFault::IsPad);
     };
     let (rows, columns) = window.size();
-    Ok(Part {
+    Ok(ShownPart {
         row: 0,
         column: 0,
         rows,
@@ -213,7 +213,7 @@ fn pad_part(
     left: u32,
     bottom: u32,
     right: u32,
-) -> Result<Part, WinFault>
+) -> Result<ShownPart, WinFault>
     ensures part { result ≡ pad_part screen.rows screen.columns row column top left bottom right window.now.window }
     ensures inside { IfOk result (IsInside screen.rows screen.columns window.now) }
 {
@@ -234,7 +234,7 @@ fn pad_part(
     if bottom >= screen.rows || right >= screen.columns {
         return Err(WinFault::OffScreen);
     }
-    Ok(Part {
+    Ok(ShownPart {
         row,
         column,
         rows: bottom + 1 - top,
@@ -253,7 +253,7 @@ fn is_copied(window: &WindowRef, line: u32, all: bool) -> bool
 }
 
 // Where a place of a window is shown, if it is in the part.
-fn shown_at(part: Part, place: (u32, u32)) -> Option<(u32, u32)>
+fn shown_at(part: ShownPart, place: (u32, u32)) -> Option<(u32, u32)>
     requires rows { part.top + part.rows ≤ 500 }
     requires columns { part.left + part.columns ≤ 500 }
     ensures { result ≡ shown_place part place }

@@ -46,7 +46,7 @@ pub(crate) fn check_header(width: Width, bytes: &[u8]) -> Result<(), BinFault>
 
 /// The sections of a file, after its header.
 #[derive(Clone, Copy)]
-pub(crate) struct Parts<'a> {
+pub(crate) struct FileSections<'a> {
     /// The names, and what follows their NUL in the section.
     pub(crate) names: &'a [u8],
     /// One byte for each flag.
@@ -92,7 +92,7 @@ pub(crate) fn check_room(width: Width, bytes: &[u8]) -> Result<(), BinFault>
 }
 
 /// Divides a file into sections, by the numbers of its header.
-pub(crate) fn cut(width: Width, bytes: &[u8]) -> Parts<'_>
+pub(crate) fn cut(width: Width, bytes: &[u8]) -> FileSections<'_>
     requires room { 12 ≤ length bytes.now }
     requires short { length bytes.now ≤ 32768 }
     requires fits { HasRoom width bytes.now }
@@ -113,7 +113,7 @@ pub(crate) fn cut(width: Width, bytes: &[u8]) -> Parts<'_>
     let offsets_place = numbers_place + width.size_of(usize::from(numbers));
     let table_place = offsets_place + 2 * usize::from(offsets);
     let end = table_place + usize::from(table);
-    Parts {
+    FileSections {
         names: &bytes[12..flags_place],
         flags: &bytes[flags_place..flags_place + flags],
         number_count: numbers,

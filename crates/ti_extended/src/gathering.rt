@@ -5,7 +5,7 @@ use crate::additions::{Addition, Owner, addition_of, name_of, text_of};
 use crate::carets::{CaretNote, has_caret};
 use std::alloc::{AllocError, Global};
 use ti_caps::{cut_name, has_no_blank};
-use ti_source::{Cause, Line, Lines, Notes, SourceFault, split_field};
+use ti_source::{Cause, Lines, Notes, SourceFault, SourceLine, split_field};
 
 /// No note, no entry.
 pub(crate) const NONE: u32 = u32::MAX;
@@ -75,11 +75,16 @@ impl<'a> Gathered<'a> {
         Ok(gathered)
     }
 
-    fn add_line(&mut self, number: u32, line: Line<'a>, notes: &Notes) -> Result<(), SourceFault> {
+    fn add_line(
+        &mut self,
+        number: u32,
+        line: SourceLine<'a>,
+        notes: &Notes,
+    ) -> Result<(), SourceFault> {
         match line {
-            Line::NonAscii => Ok(()),
-            Line::Continues(text) => self.add_fields(number, text, notes),
-            Line::Begins(names, text) => {
+            SourceLine::NonAscii => Ok(()),
+            SourceLine::Continues(text) => self.add_fields(number, text, notes),
+            SourceLine::Begins(names, text) => {
                 self.add_names(names)?;
                 self.add_fields(number, text, notes)
             }

@@ -9,7 +9,7 @@ ghost use Rattle.ti_extended.specs.Whole.{are_capabilities};
 
 use crate::capabilities::Extended;
 use crate::faults::WholeFault;
-use crate::sections::{Parts, any_unended, any_unnamed, check_room, cut};
+use crate::sections::{SectionParts, any_unended, any_unnamed, check_room, cut};
 use crate::words::{name_said, whole_said};
 use std::alloc::{AllocError, Global};
 use ti_binary::{Width, rest_from, text_said, word};
@@ -41,7 +41,7 @@ pub(crate) fn capabilities_in(
 }
 
 /// The names in the string table, if each text and each name ends there.
-fn names_in<'a>(parts: &Parts<'a>) -> Result<&'a [u8], WholeFault>
+fn names_in<'a>(parts: &SectionParts<'a>) -> Result<&'a [u8], WholeFault>
     requires texts { 2 * parts.now.text_count ≤ length parts.now.texts.now }
     requires names { 2 * parts.now.name_count ≤ length parts.now.names.now }
     requires few { parts.now.text_count ≤ 16384 }
@@ -102,7 +102,7 @@ struct Found {
 fn found_in(
     alloc: Global,
     width: Width,
-    parts: &Parts<'_>,
+    parts: &SectionParts<'_>,
     names: &[u8],
 ) -> Result<Found, AllocError>
     requires numbers { numbers_size width parts.now.number_count ≤ length parts.now.numbers.now }

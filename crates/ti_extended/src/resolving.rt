@@ -23,7 +23,7 @@ enum Mark {
 }
 
 #[derive(Clone, Copy)]
-enum Task {
+enum FieldTask {
     /// Enter the entry at an index.
     Visit(u32),
     /// Leave an entry whose uses are followed.
@@ -64,12 +64,12 @@ struct Doubt {
 
 /// What is known, and what is left to do, the next task last.
 #[derive(Drop)]
-struct Walk<'g, 'a> {
+struct FieldWalk<'g, 'a> {
     fields: &'g [Field<'a>],
     ends: &'g [Ends],
     used: Vec<u32>,
     marks: Vec<Mark>,
-    tasks: Vec<Task>,
+    tasks: Vec<FieldTask>,
     kept: Vec<u32>,
     ranges: Vec<Range>,
     /// For each name the turn in which a field of it was found last.
@@ -92,7 +92,7 @@ pub(crate) fn resolve(alloc: Global, gathered: &mut Gathered<'_>) -> Result<Reso
 
 fn walked(alloc: Global, gathered: &Gathered<'_>) -> Result<(Resolved, Vec<Doubt>), AllocError> {
     let (count, entries) = (gathered.fields.len(), gathered.ends.len());
-    let mut walk = Walk {
+    let mut walk = FieldWalk {
         fields: &gathered.fields,
         ends: &gathered.ends,
         used: gathered.used(alloc)?,
@@ -107,7 +107,7 @@ fn walked(alloc: Global, gathered: &Gathered<'_>) -> Result<(Resolved, Vec<Doubt
     for entry in 0..entries {
         walk.follow(narrow(entry))?;
     }
-    let Walk {
+    let FieldWalk {
         kept,
         ranges,
         doubts,
@@ -134,15 +134,15 @@ fn only_use(fields: Range, uses: Range) -> Option<usize>
     }
 }
 
-impl Walk<'_, '_> {
+impl FieldWalk<'_, '_> {
     // Finds the fields of an entry. Each use and each entry is a task once.
     fn follow(&mut self, entry: u32) -> Result<(), AllocError> {
-        self.tasks.push(Task::Visit(entry))?;
+        self.tasks.push(FieldTask::Visit(entry))?;
         let most = self.used.len().saturating_add(self.ends.len());
         for done in 0..most.saturating_mul(2).saturating_add(1) {
             match self.tasks.pop() {
-                Some(Task::Visit(next)) => self.enter(next)?,
-                Some(Task::Leave(left)) => self.leave(left)?,
+                Some(FieldTask::Visit(next)) => self.enter(next)?,
+                Some(FieldTask::Leave(left)) => self.leave(left)?,
                 None => break,
             }
         }
@@ -156,13 +156,13 @@ impl Walk<'_, '_> {
             return Ok(());
         }
         self.mark(entry, Mark::Open);
-        self.tasks.push(Task::Leave(entry))?;
+        self.tasks.push(FieldTask::Leave(entry))?;
         let (_, uses) = self.parts(entry);
         let mut left = uses.end;
         while left > uses.start {
             left -= 1;
             if let Some(used) = self.used.get(left).copied() {
-                self.tasks.push(Task::Visit(used))?;
+                self.tasks.push(FieldTask::Visit(used))?;
             }
         }
         Ok(())

@@ -15,7 +15,7 @@ const HEADER: usize = 10;
 
 /// The parts of a section, after its header.
 #[derive(Clone, Copy)]
-pub(crate) struct Parts<'a> {
+pub(crate) struct SectionParts<'a> {
     /// One byte for each flag.
     pub(crate) flags: &'a [u8],
     /// The number of numbers, and two or four bytes for each.
@@ -87,7 +87,7 @@ pub(crate) fn check_room(width: Width, section: &[u8]) -> Result<(), WholeFault>
 }
 
 /// Divides a section into its parts.
-pub(crate) fn cut(width: Width, section: &[u8]) -> Parts<'_>
+pub(crate) fn cut(width: Width, section: &[u8]) -> SectionParts<'_>
     requires header { 10 ≤ length section.now }
     requires room { end_place width section.now ≡ length section.now }
     requires short { length section.now ≤ 32768 }
@@ -106,7 +106,7 @@ pub(crate) fn cut(width: Width, section: &[u8]) -> Parts<'_>
     let flags = usize::from(word(section, 0));
     let number_count = usize::from(word(section, 2));
     let text_count = usize::from(word(section, 4));
-    Parts {
+    SectionParts {
         flags: &section[HEADER..HEADER + flags],
         number_count,
         numbers: &section[at.numbers..at.texts],

@@ -10,7 +10,7 @@ use Rattle.ti_source.specs.declared.reading.statement.Statement.{Statement}
 use Rattle.ti_source.specs.Described.{Described}
 use Rattle.ti_source.specs.Resolving.Named.{has_name, index_of}
 use Rattle.ti_source.specs.Resolving.Uses.{merged, nothing, unknown, Resolve, Resolved, StandsAlone, Unresolved}
-use Rattle.ti_source.specs.Code.Walk.{of_fields}
+use Rattle.ti_source.specs.Code.EntryWalk.{of_fields}
 use Rattle.ti_source.proofs.NamedLaws.{found-any, found-none}
 use Rattle.ti_source.proofs.TaskLaws.{resolved-at}
 

@@ -5,7 +5,7 @@ use Rattle.std.proofs.lemmas.List.{map-append}
 use Rattle.std.proofs.lemmas.Grind.{flat_map-append}
 use Rattle.ti_source.specs.declared.faults.SourceFault.{SourceFault}
 use Rattle.ti_source.specs.declared.faults.SourceFault.TheVariants.{FieldBeforeEntry, NotAscii}
-use Rattle.ti_source.specs.Reading.Line.{Line, Skipped, NonAscii, Continues, Begins}
+use Rattle.ti_source.specs.Reading.SourceLine.{SourceLine, Skipped, NonAscii, Continues, Begins}
 use Rattle.ti_source.specs.Reading.Sources.{NumberedField, Whole, WrittenEntry, each_after, each_beside, field_fault, described, notes_on, names_faults, numbered_fields, continuing, written_entries, continued_faults, begun_faults, line_faults, source_lines, source_of, unless_faulty, whole_of}
 use Rattle.ti_source.specs.Code.Blocks.{IsBlock, IsBetween, ReadsBlock, source_after}
 use Rattle.ti_source.specs.Code.Lines.{EndsBlock, lines_of_fields, unskipped}
@@ -16,14 +16,14 @@ use Rattle.ti_source.proofs.OpenEntryLaws.{Adds-then, faultless, fails-first}
 
 -- ---- lines that are skipped
 
-unskipped-continuing : (ls : List (ℕ × Line)) → continuing (unskipped ls) ≡ continuing ls
+unskipped-continuing : (ls : List (ℕ × SourceLine)) → continuing (unskipped ls) ≡ continuing ls
 unskipped-continuing [] = refl
 unskipped-continuing ((k, Skipped) ∷ ls) = unskipped-continuing ls
 unskipped-continuing ((k, NonAscii) ∷ ls) = unskipped-continuing ls
 unskipped-continuing ((k, Continues fs) ∷ ls) = ap (λ r. numbered_fields k fs ++ r) (unskipped-continuing ls)
 unskipped-continuing ((k, Begins names fs) ∷ ls) = refl
 
-unskipped-entries : (ls : List (ℕ × Line)) → written_entries (unskipped ls) ≡ written_entries ls
+unskipped-entries : (ls : List (ℕ × SourceLine)) → written_entries (unskipped ls) ≡ written_entries ls
 unskipped-entries [] = refl
 unskipped-entries ((k, Skipped) ∷ ls) = unskipped-entries ls
 unskipped-entries ((k, NonAscii) ∷ ls) = unskipped-entries ls
@@ -31,14 +31,14 @@ unskipped-entries ((k, Continues fs) ∷ ls) = unskipped-entries ls
 unskipped-entries ((k, Begins names fs) ∷ ls) =
     λ i. (record { names = names; fields = numbered_fields k fs ++ unskipped-continuing ls i }) ∷ unskipped-entries ls i
 
-unskipped-append : (ls ks : List (ℕ × Line)) → unskipped (ls ++ ks) ≡ unskipped ls ++ unskipped ks
+unskipped-append : (ls ks : List (ℕ × SourceLine)) → unskipped (ls ++ ks) ≡ unskipped ls ++ unskipped ks
 unskipped-append [] ks = refl
 unskipped-append ((k, Skipped) ∷ ls) ks = unskipped-append ls ks
 unskipped-append ((k, NonAscii) ∷ ls) ks = ap (λ r. (k, NonAscii) ∷ r) (unskipped-append ls ks)
 unskipped-append ((k, Continues fs) ∷ ls) ks = ap (λ r. (k, Continues fs) ∷ r) (unskipped-append ls ks)
 unskipped-append ((k, Begins names fs) ∷ ls) ks = ap (λ r. (k, Begins names fs) ∷ r) (unskipped-append ls ks)
 
-unskipped-faults : (before ls : List (ℕ × Line)) → each_after line_faults (unskipped before) (unskipped ls) ≡ each_after line_faults before ls
+unskipped-faults : (before ls : List (ℕ × SourceLine)) → each_after line_faults (unskipped before) (unskipped ls) ≡ each_after line_faults before ls
 unfolding line_faults
 unskipped-faults before [] = refl
 unskipped-faults before ((k, Skipped) ∷ ls) =
@@ -53,20 +53,20 @@ unskipped-faults before ((k, Begins names fs) ∷ ls) =
     ∙ ap (λ r. begun_faults k names fs (written_entries before) ++ r) (ap (λ b. each_after line_faults b (unskipped ls)) (sym (unskipped-append before ((k, Begins names fs) ∷ []))) ∙ unskipped-faults (before ++ (k, Begins names fs) ∷ []) ls)
 
 -- they add nothing
-pub unskipped-all : (ls : List (ℕ × Line)) → source_after [] (unskipped ls) ≡ source_after [] ls
+pub unskipped-all : (ls : List (ℕ × SourceLine)) → source_after [] (unskipped ls) ≡ source_after [] ls
 unskipped-all ls =
     (λ i. unless_faulty (unskipped-faults [] ls i) (record { entries = map described (unskipped-entries ls i); notes = flat_map notes_on (unskipped-entries ls i) }))
 
 -- ---- a block
 
-continuing-block : (before : List (ℕ × Line)) (n : ℕ) (names : List ℕ) (fields : List (List ℕ)) (more : List (ℕ × Line)) → continuing (before ++ (n, Begins names fields) ∷ more) ≡ continuing before
+continuing-block : (before : List (ℕ × SourceLine)) (n : ℕ) (names : List ℕ) (fields : List (List ℕ)) (more : List (ℕ × SourceLine)) → continuing (before ++ (n, Begins names fields) ∷ more) ≡ continuing before
 continuing-block [] n names fields more = refl
 continuing-block ((k, Skipped) ∷ ls) n names fields more = continuing-block ls n names fields more
 continuing-block ((k, NonAscii) ∷ ls) n names fields more = continuing-block ls n names fields more
 continuing-block ((k, Continues fs) ∷ ls) n names fields more = ap (λ r. numbered_fields k fs ++ r) (continuing-block ls n names fields more)
 continuing-block ((k, Begins others fs) ∷ ls) n names fields more = refl
 
-entries-block : (before : List (ℕ × Line)) (n : ℕ) (names : List ℕ) (fields : List (List ℕ)) (more : List (ℕ × Line)) → written_entries (before ++ (n, Begins names fields) ∷ more) ≡ written_entries before ++ written_entries ((n, Begins names fields) ∷ more)
+entries-block : (before : List (ℕ × SourceLine)) (n : ℕ) (names : List ℕ) (fields : List (List ℕ)) (more : List (ℕ × SourceLine)) → written_entries (before ++ (n, Begins names fields) ∷ more) ≡ written_entries before ++ written_entries ((n, Begins names fields) ∷ more)
 entries-block [] n names fields more = refl
 entries-block ((k, Skipped) ∷ ls) n names fields more = entries-block ls n names fields more
 entries-block ((k, NonAscii) ∷ ls) n names fields more = entries-block ls n names fields more
@@ -79,7 +79,7 @@ no-entries [] = refl
 no-entries (t ∷ ts) = no-entries ts
 
 -- the entries of lines and a block
-entries-are : (before : List (ℕ × Line)) (n : ℕ) (names : List ℕ) (fields : List (List ℕ)) (taken : List (ℕ × List (List ℕ))) →
+entries-are : (before : List (ℕ × SourceLine)) (n : ℕ) (names : List ℕ) (fields : List (List ℕ)) (taken : List (ℕ × List (List ℕ))) →
     written_entries (before ++ (n, Begins names fields) ∷ lines_of_fields taken) ≡ written_entries before ++ (record { names = names; fields = numbered_fields n fields ++ continuing (lines_of_fields taken) }) ∷ []
 entries-are before n names fields taken =
     entries-block before n names fields (lines_of_fields taken)
@@ -104,7 +104,7 @@ last-faults n fields (v ∷ []) w = refl
 last-faults n fields (v ∷ u ∷ ws) w = last-faults n fields (u ∷ ws) w
 
 -- the faults of lines that continue an entry with these fields
-continued-are : (before : List (ℕ × Line)) (n : ℕ) (names : List ℕ) (fields : List (List ℕ)) (read taken : List (ℕ × List (List ℕ))) →
+continued-are : (before : List (ℕ × SourceLine)) (n : ℕ) (names : List ℕ) (fields : List (List ℕ)) (read taken : List (ℕ × List (List ℕ))) →
     each_after line_faults (before ++ (n, Begins names fields) ∷ lines_of_fields read) (lines_of_fields taken) ≡ each_after field_fault (numbered_fields n fields ++ continuing (lines_of_fields read)) (continuing (lines_of_fields taken))
 unfolding line_faults
 continued-are before n names fields read [] = refl
@@ -112,7 +112,7 @@ continued-are before n names fields read (t ∷ ts) =
     let ls = lines_of_fields ts in
     let xs = numbered_fields n fields ++ continuing (lines_of_fields read) in
     let ys = numbered_fields t.0 t.1 in
-    let block : List (ℕ × Line) → List (ℕ × Line) = λ more. before ++ (n, Begins names fields) ∷ more in
+    let block : List (ℕ × SourceLine) → List (ℕ × SourceLine) = λ more. before ++ (n, Begins names fields) ∷ more in
     let here : continued_faults t.0 t.1 (written_entries (block (lines_of_fields read))) ≡ each_after field_fault xs ys =
     ap (continued_faults t.0 t.1) (entries-are before n names fields read) ∙ last-faults t.0 t.1 (written_entries before) (record { names = names; fields = xs }) in
     let later : each_after line_faults (block (lines_of_fields read) ++ (t.0, Continues t.1) ∷ []) ls ≡ each_after field_fault (xs ++ ys) (continuing ls) =
@@ -122,7 +122,7 @@ continued-are before n names fields read (t ∷ ts) =
     (λ i. here i ++ later i) ∙ sym (each-append field_fault xs ys (continuing ls))
 
 -- the faults of a block: that of its names, and those of its fields
-faults-are : (before : List (ℕ × Line)) (n : ℕ) (names : List ℕ) (fields : List (List ℕ)) (taken : List (ℕ × List (List ℕ))) →
+faults-are : (before : List (ℕ × SourceLine)) (n : ℕ) (names : List ℕ) (fields : List (List ℕ)) (taken : List (ℕ × List (List ℕ))) →
     each_after line_faults before ((n, Begins names fields) ∷ lines_of_fields taken) ≡ names_faults n names (map described (written_entries before)) ++ each_beside field_fault (numbered_fields n fields ++ continuing (lines_of_fields taken))
 unfolding line_faults
 faults-are before n names fields taken =
@@ -134,7 +134,7 @@ faults-are before n names fields taken =
     ∙ ap (λ r. of_names ++ r) (sym (each-append field_fault [] xs ys))
 
 -- what a block adds
-pub block-is : (before : List (ℕ × Line)) (n : ℕ) (names : List ℕ) (fields : List (List ℕ)) (taken : List (ℕ × List (List ℕ))) (all : List NumberedField) → all ≡ numbered_fields n fields ++ continuing (lines_of_fields taken) →
+pub block-is : (before : List (ℕ × SourceLine)) (n : ℕ) (names : List ℕ) (fields : List (List ℕ)) (taken : List (ℕ × List (List ℕ))) (all : List NumberedField) → all ≡ numbered_fields n fields ++ continuing (lines_of_fields taken) →
     source_after before ((n, Begins names fields) ∷ lines_of_fields taken)
     ≡ unless_faulty (names_faults n names (map described (written_entries before)) ++ each_beside field_fault all)
     (record { entries = map described (written_entries before) ++ described (record { names = names; fields = all }) ∷ []; notes = flat_map notes_on (written_entries before) ++ notes_on (record { names = names; fields = all }) })
@@ -152,40 +152,40 @@ block-is before n names fields taken all is =
 
 -- ---- one block after another
 
-pub goes-on : (before xs ys : List (ℕ × Line)) (w : Whole) → source_after before xs ≡ Ok w → (w ≡ whole_of (before ++ xs)) × (source_after (before ++ xs) ys ≡ source_after before (xs ++ ys))
+pub goes-on : (before xs ys : List (ℕ × SourceLine)) (w : Whole) → source_after before xs ≡ Ok w → (w ≡ whole_of (before ++ xs)) × (source_after (before ++ xs) ys ≡ source_after before (xs ++ ys))
 goes-on before xs ys w e =
     let p = faultless (each_after line_faults before xs) (whole_of (before ++ xs)) w e in
     let faults : each_after line_faults before (xs ++ ys) ≡ each_after line_faults (before ++ xs) ys =
     each-append line_faults before xs ys ∙ ap (λ es. es ++ each_after line_faults (before ++ xs) ys) p.0 in
     (sym p.1, λ i. unless_faulty (sym faults i) (whole_of (append_assoc before xs ys i)))
 
-pub fails-on : (e : SourceFault) (before xs ys : List (ℕ × Line)) → Fails e (source_after before xs) → Fails e (source_after before (xs ++ ys))
+pub fails-on : (e : SourceFault) (before xs ys : List (ℕ × SourceLine)) → Fails e (source_after before xs) → Fails e (source_after before (xs ++ ys))
 fails-on e before xs ys fails =
     rw (each-append line_faults before xs ys) (fails-first e (each_after line_faults before xs) (each_after line_faults (before ++ xs) ys) (whole_of (before ++ xs)) (whole_of (before ++ (xs ++ ys))) fails)
 
-pub not_ascii-is : (before : List (ℕ × Line)) (n : ℕ) → source_after before ((n, NonAscii) ∷ []) ≡ Err (NotAscii n)
+pub not_ascii-is : (before : List (ℕ × SourceLine)) (n : ℕ) → source_after before ((n, NonAscii) ∷ []) ≡ Err (NotAscii n)
 unfolding line_faults
 not_ascii-is before n = refl
 
-pub before_entry-is : (before : List (ℕ × Line)) (n : ℕ) (fields : List (List ℕ)) → written_entries before ≡ [] → source_after before ((n, Continues fields) ∷ []) ≡ Err (FieldBeforeEntry n)
+pub before_entry-is : (before : List (ℕ × SourceLine)) (n : ℕ) (fields : List (List ℕ)) → written_entries before ≡ [] → source_after before ((n, Continues fields) ∷ []) ≡ Err (FieldBeforeEntry n)
 unfolding line_faults
 before_entry-is before n fields none = rw none refl
 
 -- ---- the lines of a block one after another
 
 -- some lines of the block were taken, and their fields added
-pub record BlockSoFar (fields : List NumberedField) (old : OpenEntry) (lines : List (ℕ × Line)) (now : OpenEntry) (left : List (ℕ × Line)) : Type 0 where
+pub record BlockSoFar (fields : List NumberedField) (old : OpenEntry) (lines : List (ℕ × SourceLine)) (now : OpenEntry) (left : List (ℕ × SourceLine)) : Type 0 where
   pub taken : List (ℕ × List (List ℕ))
   pub cut : lines ≡ lines_of_fields taken ++ left
   pub adds : Adds (fields ++ continuing (lines_of_fields taken)) old (Ok (tt {0})) now
 
-pub block-starts : (fields : List NumberedField) (old now : OpenEntry) (lines : List (ℕ × Line)) → Adds fields old (Ok (tt {0})) now → BlockSoFar fields old lines now lines
+pub block-starts : (fields : List NumberedField) (old now : OpenEntry) (lines : List (ℕ × SourceLine)) → Adds fields old (Ok (tt {0})) now → BlockSoFar fields old lines now lines
 block-starts fields old now lines adds =
     let P : List NumberedField → Type 0 = λ xs. Adds xs old (Ok (tt {0})) now in
     record { taken = []; cut = refl; adds = subst P (sym (append-nil fields)) adds }
 
 -- one line more
-next-cut : (taken : List (ℕ × List (List ℕ))) (lines left rest : List (ℕ × Line)) (n : ℕ) (gs : List (List ℕ)) → lines ≡ lines_of_fields taken ++ left → left ≡ (n, Continues gs) ∷ rest → lines ≡ lines_of_fields (taken ++ (n, gs) ∷ []) ++ rest
+next-cut : (taken : List (ℕ × List (List ℕ))) (lines left rest : List (ℕ × SourceLine)) (n : ℕ) (gs : List (List ℕ)) → lines ≡ lines_of_fields taken ++ left → left ≡ (n, Continues gs) ∷ rest → lines ≡ lines_of_fields (taken ++ (n, gs) ∷ []) ++ rest
 next-cut taken lines left rest n gs cut first =
     cut ∙ ap (λ r. lines_of_fields taken ++ r) first ∙ sym (append_assoc (lines_of_fields taken) ((n, Continues gs) ∷ []) rest) ∙ ap (λ r. r ++ rest) (sym (lines-both taken ((n, gs) ∷ [])))
 
@@ -195,7 +195,7 @@ next-adds fields taken n gs old mid new r one two =
     subst P (append_assoc fields (continuing (lines_of_fields taken)) (numbered_fields n gs) ∙ ap (λ q. fields ++ q) (sym (continuing-more taken n gs)))
     (Adds-then (tt {0}) (fields ++ continuing (lines_of_fields taken)) (numbered_fields n gs) old mid new r one two)
 
-pub block-goes : (fields : List NumberedField) (old mid new : OpenEntry) (lines left rest : List (ℕ × Line)) (n : ℕ) (gs : List (List ℕ)) → BlockSoFar fields old lines mid left → left ≡ (n, Continues gs) ∷ rest → Adds (numbered_fields n gs) mid (Ok (tt {0})) new → BlockSoFar fields old lines new rest
+pub block-goes : (fields : List NumberedField) (old mid new : OpenEntry) (lines left rest : List (ℕ × SourceLine)) (n : ℕ) (gs : List (List ℕ)) → BlockSoFar fields old lines mid left → left ≡ (n, Continues gs) ∷ rest → Adds (numbered_fields n gs) mid (Ok (tt {0})) new → BlockSoFar fields old lines new rest
 block-goes fields old mid new lines left rest n gs h first adds =
     record { taken = h.taken ++ (n, gs) ∷ []; cut = next-cut h.taken lines left rest n gs h.cut first; adds = next-adds fields h.taken n gs old mid new (Ok (tt {0})) h.adds adds }
 
@@ -203,7 +203,7 @@ not-ok : (r : Result (Unit {0}) SourceFault) (e : SourceFault) (P : Type 0) → 
 not-ok (Ok d) e P failed = cc
 not-ok (Err f) e P failed = tt
 
-pub block-fails : (fields : List NumberedField) (old mid new : OpenEntry) (lines left rest : List (ℕ × Line)) (n : ℕ) (gs : List (List ℕ)) (r : Result (Unit {0}) SourceFault) (e : SourceFault) → BlockSoFar fields old lines mid left → left ≡ (n, Continues gs) ∷ rest → r ≡ Err e → Adds (numbered_fields n gs) mid r new → AddsBlock fields old lines r new rest
+pub block-fails : (fields : List NumberedField) (old mid new : OpenEntry) (lines left rest : List (ℕ × SourceLine)) (n : ℕ) (gs : List (List ℕ)) (r : Result (Unit {0}) SourceFault) (e : SourceFault) → BlockSoFar fields old lines mid left → left ≡ (n, Continues gs) ∷ rest → r ≡ Err e → Adds (numbered_fields n gs) mid r new → AddsBlock fields old lines r new rest
 block-fails fields old mid new lines left rest n gs r e h first failed adds = record {
   taken = h.taken ++ (n, gs) ∷ [];
   cut = next-cut h.taken lines left rest n gs h.cut first;
@@ -213,16 +213,16 @@ block-fails fields old mid new lines left rest n gs r e h first failed adds = re
 
 -- ---- a block that is read
 
-pub not-ascii : (before lines : List (ℕ × Line)) (n : ℕ) → IsBlock before (n, NonAscii) lines (Err (NotAscii n)) lines
+pub not-ascii : (before lines : List (ℕ × SourceLine)) (n : ℕ) → IsBlock before (n, NonAscii) lines (Err (NotAscii n)) lines
 not-ascii before lines n =
     record { taken = []; cut = refl; gives = inr (not_ascii-is before n); ends = tt }
 
-pub before-entry : (before lines : List (ℕ × Line)) (n : ℕ) (fields : List (List ℕ)) → IsBetween before ((n, Continues fields) ∷ lines) → IsBlock before (n, Continues fields) lines (Err (FieldBeforeEntry n)) lines
+pub before-entry : (before lines : List (ℕ × SourceLine)) (n : ℕ) (fields : List (List ℕ)) → IsBetween before ((n, Continues fields) ∷ lines) → IsBlock before (n, Continues fields) lines (Err (FieldBeforeEntry n)) lines
 before-entry before lines n fields (inl none) =
     record { taken = []; cut = refl; gives = inr (before_entry-is before n fields none); ends = tt }
 before-entry before lines n fields (inr ends) = absurd ends
 
-pub names-fail : {A : Type 0} → (before lines : List (ℕ × Line)) (n : ℕ) (names : List ℕ) (fields : List (List ℕ)) (source : Whole) (x : A) (answer : Result Whole SourceFault) (e : SourceFault) → source ≡ whole_of before → answer ≡ Err e → Fails e (unless_faulty (names_faults n names source.entries) x) → IsBlock before (n, Begins names fields) lines answer lines
+pub names-fail : {A : Type 0} → (before lines : List (ℕ × SourceLine)) (n : ℕ) (names : List ℕ) (fields : List (List ℕ)) (source : Whole) (x : A) (answer : Result Whole SourceFault) (e : SourceFault) → source ≡ whole_of before → answer ≡ Err e → Fails e (unless_faulty (names_faults n names source.entries) x) → IsBlock before (n, Begins names fields) lines answer lines
 names-fail {A} before lines n names fields source x answer e is failed fails =
     let own : Fails e (unless_faulty (names_faults n names (map described (written_entries before))) x) =
     subst (λ (w : Whole). Fails e (unless_faulty (names_faults n names w.entries) x)) is fails in
@@ -234,11 +234,11 @@ names-fail {A} before lines n names fields source x answer e is failed fails =
     }
 
 -- an entry that has begun
-pub begun-is : (before : List (ℕ × Line)) (names : List ℕ) (source : Whole) (old : OpenEntry) → source ≡ whole_of before → old ≡ record { entry = record { names = names; statements = []; uses = [] }; notes = source.notes } → old ≡ open_entry names (flat_map notes_on (written_entries before)) []
+pub begun-is : (before : List (ℕ × SourceLine)) (names : List ℕ) (source : Whole) (old : OpenEntry) → source ≡ whole_of before → old ≡ record { entry = record { names = names; statements = []; uses = [] }; notes = source.notes } → old ≡ open_entry names (flat_map notes_on (written_entries before)) []
 begun-is before names source old is same =
     same ∙ (λ i. record { entry = record { names = names; statements = []; uses = [] }; notes = (ap (λ (w : Whole). w.notes) is ∙ sym (append-nil (flat_map notes_on (written_entries before)))) i })
 
-pub fields-fail : (before lines left : List (ℕ × Line)) (n : ℕ) (names : List ℕ) (fields : List (List ℕ)) (old new : OpenEntry) (r : Result (Unit {0}) SourceFault) (answer : Result Whole SourceFault) (e : SourceFault) → names_faults n names (map described (written_entries before)) ≡ [] → old ≡ open_entry names (flat_map notes_on (written_entries before)) [] → r ≡ Err e → answer ≡ Err e → AddsBlock (numbered_fields n fields) old lines r new left → IsBlock before (n, Begins names fields) lines answer left
+pub fields-fail : (before lines left : List (ℕ × SourceLine)) (n : ℕ) (names : List ℕ) (fields : List (List ℕ)) (old new : OpenEntry) (r : Result (Unit {0}) SourceFault) (answer : Result Whole SourceFault) (e : SourceFault) → names_faults n names (map described (written_entries before)) ≡ [] → old ≡ open_entry names (flat_map notes_on (written_entries before)) [] → r ≡ Err e → answer ≡ Err e → AddsBlock (numbered_fields n fields) old lines r new left → IsBlock before (n, Begins names fields) lines answer left
 fields-fail before lines left n names fields old new r answer e none is failed answered h =
     let all = numbered_fields n fields ++ continuing (lines_of_fields h.taken) in
     let fails : Fails e (unless_faulty (each_beside field_fault all) (open_entry names (flat_map notes_on (written_entries before)) all)) =
@@ -255,7 +255,7 @@ fields-fail before lines left n names fields old new r answer e none is failed a
     fails-any f [] x y (inr k) = cc
     fails-any f (g ∷ gs) x y (inr k) = let same : g ≡ f = cc in inr (ap Err same)
 
-pub block-read : (before lines left : List (ℕ × Line)) (n : ℕ) (names : List ℕ) (fields : List (List ℕ)) (source : Whole) (old new : OpenEntry) (answer : Result Whole SourceFault) → source ≡ whole_of before → names_faults n names (map described (written_entries before)) ≡ [] → old ≡ open_entry names (flat_map notes_on (written_entries before)) [] → AddsBlock (numbered_fields n fields) old lines (Ok (tt {0})) new left → Gives answer (Ok (record { entries = source.entries ++ new.entry ∷ []; notes = new.notes })) → IsBlock before (n, Begins names fields) lines answer left
+pub block-read : (before lines left : List (ℕ × SourceLine)) (n : ℕ) (names : List ℕ) (fields : List (List ℕ)) (source : Whole) (old new : OpenEntry) (answer : Result Whole SourceFault) → source ≡ whole_of before → names_faults n names (map described (written_entries before)) ≡ [] → old ≡ open_entry names (flat_map notes_on (written_entries before)) [] → AddsBlock (numbered_fields n fields) old lines (Ok (tt {0})) new left → Gives answer (Ok (record { entries = source.entries ++ new.entry ∷ []; notes = new.notes })) → IsBlock before (n, Begins names fields) lines answer left
 block-read before lines left n names fields source old new answer from none is h gives =
     let all = numbered_fields n fields ++ continuing (lines_of_fields h.taken) in
     let ws = written_entries before in
@@ -273,18 +273,18 @@ block-read before lines left n names fields source old new answer from none is h
 -- ---- all blocks
 
 -- some lines were read, and what they and those that are left are is this source
-pub record ReadSoFar (wanted : Result Whole SourceFault) (source : Whole) (lines : List (ℕ × Line)) : Type 0 where
-  pub before : List (ℕ × Line)
+pub record ReadSoFar (wanted : Result Whole SourceFault) (source : Whole) (lines : List (ℕ × SourceLine)) : Type 0 where
+  pub before : List (ℕ × SourceLine)
   pub is : source ≡ whole_of before
   pub between : IsBetween before lines
   pub gives : source_after before lines ≡ wanted
 
-pub read-starts : (bytes : List ℕ) (source : Whole) (lines : List (ℕ × Line)) → source ≡ whole_of [] → lines ≡ unskipped (source_lines bytes) → ReadSoFar (source_of bytes) source lines
+pub read-starts : (bytes : List ℕ) (source : Whole) (lines : List (ℕ × SourceLine)) → source ≡ whole_of [] → lines ≡ unskipped (source_lines bytes) → ReadSoFar (source_of bytes) source lines
 unfolding source_of
 read-starts bytes source lines none all =
     record { before = []; is = none; between = inl refl; gives = ap (source_after []) all ∙ unskipped-all (source_lines bytes) }
 
-pub read-goes : (wanted : Result Whole SourceFault) (source next : Whole) (lines rest left : List (ℕ × Line)) (line : ℕ × Line) → ReadSoFar wanted source lines → lines ≡ line ∷ rest → ReadsBlock source line rest (Ok next) left → ReadSoFar wanted next left
+pub read-goes : (wanted : Result Whole SourceFault) (source next : Whole) (lines rest left : List (ℕ × SourceLine)) (line : ℕ × SourceLine) → ReadSoFar wanted source lines → lines ≡ line ∷ rest → ReadsBlock source line rest (Ok next) left → ReadSoFar wanted next left
 read-goes wanted source next lines rest left line h first reads =
     let block = reads h.before h.is (subst (IsBetween h.before) first h.between) in
     let on = goes-on h.before (line ∷ block.taken) left next block.gives in
@@ -295,14 +295,14 @@ read-goes wanted source next lines rest left line h first reads =
       gives = on.1 ∙ ap (λ ls. source_after h.before (line ∷ ls)) (sym block.cut) ∙ ap (source_after h.before) (sym first) ∙ h.gives;
     }
 
-pub read-fails : (wanted : Result Whole SourceFault) (source : Whole) (lines rest left : List (ℕ × Line)) (line : ℕ × Line) (e : SourceFault) → ReadSoFar wanted source lines → lines ≡ line ∷ rest → ReadsBlock source line rest (Err e) left → Fails e wanted
+pub read-fails : (wanted : Result Whole SourceFault) (source : Whole) (lines rest left : List (ℕ × SourceLine)) (line : ℕ × SourceLine) (e : SourceFault) → ReadSoFar wanted source lines → lines ≡ line ∷ rest → ReadsBlock source line rest (Err e) left → Fails e wanted
 read-fails wanted source lines rest left line e h first reads =
     let block = reads h.before h.is (subst (IsBetween h.before) first h.between) in
     let all : source_after h.before ((line ∷ block.taken) ++ left) ≡ wanted =
     ap (λ ls. source_after h.before (line ∷ ls)) (sym block.cut) ∙ ap (source_after h.before) (sym first) ∙ h.gives in
     subst (λ w. Fails e w) all (fails-on e h.before (line ∷ block.taken) left block.gives)
 
-pub read-smaller : (wanted answer : Result Whole SourceFault) (source : Whole) (lines rest left : List (ℕ × Line)) (line : ℕ × Line) → ReadSoFar wanted source lines → lines ≡ line ∷ rest → ReadsBlock source line rest answer left → length left < length lines
+pub read-smaller : (wanted answer : Result Whole SourceFault) (source : Whole) (lines rest left : List (ℕ × SourceLine)) (line : ℕ × SourceLine) → ReadSoFar wanted source lines → lines ≡ line ∷ rest → ReadsBlock source line rest answer left → length left < length lines
 read-smaller wanted answer source lines rest left line h first reads =
     let block = reads h.before h.is (subst (IsBetween h.before) first h.between) in
     rw (first, block.cut) (let sum = length-append block.taken left in omega (arith, sum))

@@ -11,12 +11,12 @@ use Rattle.ti_source.specs.declared.faults.SourceFault.TheVariants.{UseCycle}
 use Rattle.ti_source.specs.declared.reading.statement.Statement.{Statement}
 use Rattle.ti_source.specs.declared.resolving.marks.Mark.{Mark}
 use Rattle.ti_source.specs.declared.resolving.marks.Mark.TheVariants.{New, Open, Faulty}
-use Rattle.ti_source.specs.declared.resolving.walk.Task.{Task}
-use Rattle.ti_source.specs.declared.resolving.walk.Task.TheVariants.{Visit, Leave}
+use Rattle.ti_source.specs.declared.resolving.walk.EntryTask.{EntryTask}
+use Rattle.ti_source.specs.declared.resolving.walk.EntryTask.TheVariants.{Visit, Leave}
 use Rattle.ti_source.specs.Described.{Described}
 use Rattle.ti_source.specs.Resolving.Named.{found_from, index_of}
 use Rattle.ti_source.specs.Resolving.Uses.{Resolve, nothing, more, Fault, unknown, cycle, below, later}
-use Rattle.ti_source.specs.Code.Walk.{visits, leaves, FaultAt, ResolvedAt, Awaits, Awaited, IsTakenBack, IsWalk, steps_of, with_fault}
+use Rattle.ti_source.specs.Code.EntryWalk.{visits, leaves, FaultAt, ResolvedAt, Awaits, Awaited, IsTakenBack, IsWalk, steps_of, with_fault}
 use Rattle.ti_source.proofs.OnceLaws.{fault-is-once}
 use Rattle.ti_source.proofs.IndexLaws.{get-cases, get-lt, get-other, get-within, reverse-push}
 use Rattle.ti_source.proofs.LoweringLaws.{Lowers, lowers-same, mark-lower}
@@ -113,7 +113,7 @@ next-of entries p first (u ∷ us) e =
     record { name = u; rest = us; all = refl; index = here; others = further }
 
 -- what was visited first resolves
-pub awaited-done : (entries : List Described) (tasks : List Task) (first : List (Option ℕ)) (p : Option ℕ) (d : Description) → ResolvedAt entries p d → Awaited entries (p ∷ first) tasks → Awaited entries first tasks
+pub awaited-done : (entries : List Described) (tasks : List EntryTask) (first : List (Option ℕ)) (p : Option ℕ) (d : Description) → ResolvedAt entries p d → Awaited entries (p ∷ first) tasks → Awaited entries first tasks
 awaited-done entries [] first p d r h = tt
 awaited-done entries (Visit q ∷ tasks) first p d r h = awaited-done entries tasks (first ++ q ∷ []) p d r h
 awaited-done entries (Leave i ∷ tasks) first p d r h =
@@ -133,13 +133,13 @@ awaited-done entries (Leave i ∷ tasks) first p d r h =
       h.1,
     )
 
-awaited-visits : (entries : List Described) (us : List (List ℕ)) (first : List (Option ℕ)) (rest : List Task) → Awaited entries (first ++ map (index_of entries) us) rest → Awaited entries first (visits entries us ++ rest)
+awaited-visits : (entries : List Described) (us : List (List ℕ)) (first : List (Option ℕ)) (rest : List EntryTask) → Awaited entries (first ++ map (index_of entries) us) rest → Awaited entries first (visits entries us ++ rest)
 awaited-visits entries [] first rest h = subst (λ ps. Awaited entries ps rest) (append-nil first) h
 awaited-visits entries (u ∷ us) first rest h =
     awaited-visits entries us (first ++ index_of entries u ∷ []) rest (subst (λ ps. Awaited entries ps rest) (sym (append_assoc first (index_of entries u ∷ []) (map (index_of entries) us))) h)
 
 -- an entry is entered, which awaits all its uses
-pub awaited-entered : (entries : List Described) (i : ℕ) (d : Described) (tasks : List Task) → slice_get entries i ≡ Some d → list_any (λ j. eqb j i) (leaves tasks) ≡ false → Awaited entries (Some i ∷ []) tasks → Awaited entries [] (visits entries d.uses ++ Leave i ∷ tasks)
+pub awaited-entered : (entries : List Described) (i : ℕ) (d : Described) (tasks : List EntryTask) → slice_get entries i ≡ Some d → list_any (λ j. eqb j i) (leaves tasks) ≡ false → Awaited entries (Some i ∷ []) tasks → Awaited entries [] (visits entries d.uses ++ Leave i ∷ tasks)
 awaited-entered entries i d tasks at off h =
     awaited-visits entries d.uses [] (Leave i ∷ tasks) (
       record { entry = d; at = at; before = []; further = d.uses; uses = refl; used = []; resolved = nothing; awaited = refl; once = off },
@@ -148,7 +148,7 @@ awaited-entered entries i d tasks at off h =
 
 -- ---- the fault of all that are left later
 
-fault-above : (entries : List Described) (first : List (Option ℕ)) (p : Option ℕ) (i : ℕ) (tasks : List Task) (fault : SourceFault) → Awaits entries (p ∷ first) i tasks → FaultAt entries (i ∷ leaves tasks) p fault → FaultAt entries (leaves tasks) (Some i) fault
+fault-above : (entries : List Described) (first : List (Option ℕ)) (p : Option ℕ) (i : ℕ) (tasks : List EntryTask) (fault : SourceFault) → Awaits entries (p ∷ first) i tasks → FaultAt entries (i ∷ leaves tasks) p fault → FaultAt entries (leaves tasks) (Some i) fault
 fault-above entries first p i tasks fault a h name index =
     let next = next-of entries p first a.further a.awaited in
     let here = fault-more entries (i ∷ leaves tasks) next.name next.rest fault (h next.name next.index) in
@@ -157,7 +157,7 @@ fault-above entries first p i tasks fault a h name index =
     below {found = (i, a.entry)} (found-at entries name i a.entry index a.at) a.once (subst (λ us. Fault entries (i ∷ leaves tasks) us fault) uses all)
 
 -- the fault of a visit is that of each entry on its chain, by itself, and its own by itself
-pub fault-through : (entries : List Described) (tasks : List Task) (first : List (Option ℕ)) (p : Option ℕ) (fault : SourceFault) → Awaited entries (p ∷ first) tasks → FaultAt entries (leaves tasks) p fault → ((i : ℕ) → on_chain (leaves tasks) i → FaultAt entries [] (Some i) fault) × FaultAt entries [] p fault
+pub fault-through : (entries : List Described) (tasks : List EntryTask) (first : List (Option ℕ)) (p : Option ℕ) (fault : SourceFault) → Awaited entries (p ∷ first) tasks → FaultAt entries (leaves tasks) p fault → ((i : ℕ) → on_chain (leaves tasks) i → FaultAt entries [] (Some i) fault) × FaultAt entries [] p fault
 fault-through entries [] first p fault w h = ((λ i on. cc), h)
 fault-through entries (Visit q ∷ tasks) first p fault w h =
     fault-through entries tasks (first ++ q ∷ []) p fault w h
@@ -184,7 +184,7 @@ same-fault entries chain name other fault same one = by one refl
     by (later {names = ms} {fault = g} r f) p = let none : ms ≡ [] = cc in absurd (no-fault entries _ ms g f none)
 
 -- what an entry has by itself it has over the chain from which it is visited
-pub faulty-at : (entries : List Described) (tasks : List Task) (i : ℕ) (fault : SourceFault) → Awaited entries (Some i ∷ []) tasks → FaultAt entries [] (Some i) fault → FaultAt entries (leaves tasks) (Some i) fault
+pub faulty-at : (entries : List Described) (tasks : List EntryTask) (i : ℕ) (fault : SourceFault) → Awaited entries (Some i ∷ []) tasks → FaultAt entries [] (Some i) fault → FaultAt entries (leaves tasks) (Some i) fault
 faulty-at entries tasks i fault w h name index =
     elim (longer (none-on (leaves tasks)) (h name index)) [
       | inl f ↦ f
@@ -252,7 +252,7 @@ pub open-unknown : (m : Mark) → m ≡ Open → is_some (steps_of (Some m)) ≡
 open-unknown m is h = let bad : is_some (steps_of (Some Open)) ≡ true = ap (λ x. is_some (steps_of (Some x))) (sym is) ∙ h in cc
 
 -- a walk that met a fault, once the entries on the chain are marked with it
-pub ready-again : (entries : List Described) (marks after : List Mark) (kept : List (List Statement)) (p : Option ℕ) (tasks : List Task) (fault : SourceFault) → IsWalk entries marks kept (Visit p ∷ tasks) → FaultAt entries (leaves tasks) p fault → after ≡ with_fault fault (leaves tasks) marks → IsWalk entries after kept []
+pub ready-again : (entries : List Described) (marks after : List Mark) (kept : List (List Statement)) (p : Option ℕ) (tasks : List EntryTask) (fault : SourceFault) → IsWalk entries marks kept (Visit p ∷ tasks) → FaultAt entries (leaves tasks) p fault → after ≡ with_fault fault (leaves tasks) marks → IsWalk entries after kept []
 ready-again entries marks after kept p tasks fault w h is =
     let through = fault-through entries tasks [] p fault w.awaited h in
     rw is (record {
@@ -284,11 +284,11 @@ ready-again entries marks after kept p tasks fault w h is =
             absurd (open-unknown m is some)
         by false off = with-off fault (leaves tasks) marks i off ∙ at
 
-pub faults-leave : (fault : SourceFault) (marks after whole : List Mark) (all rest : List Task) (i : ℕ) → all ≡ rest ++ Leave i ∷ [] → after ≡ set marks i (Faulty fault) → with_fault fault (leaves (reverse all)) marks ≡ whole → with_fault fault (leaves (reverse rest)) after ≡ whole
+pub faults-leave : (fault : SourceFault) (marks after whole : List Mark) (all rest : List EntryTask) (i : ℕ) → all ≡ rest ++ Leave i ∷ [] → after ≡ set marks i (Faulty fault) → with_fault fault (leaves (reverse all)) marks ≡ whole → with_fault fault (leaves (reverse rest)) after ≡ whole
 faults-leave fault marks after whole all rest i popped put h =
     ap (with_fault fault (leaves (reverse rest))) put ∙ sym (ap (λ ts. with_fault fault (leaves ts) marks) (ap reverse popped ∙ reverse-push rest (Leave i))) ∙ h
 
-pub faults-visit : (fault : SourceFault) (marks whole : List Mark) (all rest : List Task) (p : Option ℕ) → all ≡ rest ++ Visit p ∷ [] → with_fault fault (leaves (reverse all)) marks ≡ whole → with_fault fault (leaves (reverse rest)) marks ≡ whole
+pub faults-visit : (fault : SourceFault) (marks whole : List Mark) (all rest : List EntryTask) (p : Option ℕ) → all ≡ rest ++ Visit p ∷ [] → with_fault fault (leaves (reverse all)) marks ≡ whole → with_fault fault (leaves (reverse rest)) marks ≡ whole
 faults-visit fault marks whole all rest p popped h =
     sym (ap (λ ts. with_fault fault (leaves ts) marks) (ap reverse popped ∙ reverse-push rest (Visit p))) ∙ h
 
@@ -363,7 +363,7 @@ back-end before now i h all = record {
 }
 
 -- a walk that ran out of memory
-pub ready-back : (entries : List Described) (marks after : List Mark) (kept : List (List Statement)) (tasks : List Task) → IsWalk entries marks kept tasks → IsTakenBack marks after → IsWalk entries after kept []
+pub ready-back : (entries : List Described) (marks after : List Mark) (kept : List (List Statement)) (tasks : List EntryTask) → IsWalk entries marks kept tasks → IsTakenBack marks after → IsWalk entries after kept []
 ready-back entries marks after kept tasks w t = record {
   sized = t.sized ∙ w.sized;
   opened = λ i e. elim (t.stay i Open e) [ inl h ↦ absurd (cc (h)) | inr h ↦ absurd (h.1 refl) ];

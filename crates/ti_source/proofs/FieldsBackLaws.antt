@@ -7,7 +7,7 @@ use Rattle.std.proofs.lemmas.Fmt.{decimal_by_steps}
 use Rattle.std.proofs.lemmas.List.Folds.{list_all-append}
 use Rattle.ti_source.specs.Reading.Escape.{printed_byte, printed_text, IsText}
 use Rattle.ti_source.specs.Reading.Field.{fields, fields_after, is_blank, takes_next, ends_name}
-use Rattle.ti_source.specs.Reading.Line.{Continues, line_of, is_ascii}
+use Rattle.ti_source.specs.Reading.SourceLine.{Continues, line_of, is_ascii}
 use Rattle.ti_source.proofs.FieldLaws.{with_front, with_front-nil}
 use Rattle.ti_source.proofs.TableBytesLaws.{both, is_graphic, is_letter}
 

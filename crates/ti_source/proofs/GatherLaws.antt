@@ -13,7 +13,7 @@ use Rattle.ti_source.specs.Resolving.Named.{index_of}
 use Rattle.ti_source.specs.Resolving.Uses.{Resolve, nothing, merged, value_of_capability}
 use Rattle.ti_source.specs.Code.FirstFields.{AreEffective, first_value, flag_value, if_present, number_value, text_value, value_in}
 use Rattle.ti_caps.specs.Slots.{positions_of}
-use Rattle.ti_source.specs.Code.Walk.{AreKnown, Gathers, IsMarkOf, Keeps, Lists, ResolvedAt, TakeEffect, known, of_fields, steps_of}
+use Rattle.ti_source.specs.Code.EntryWalk.{AreKnown, Gathers, IsMarkOf, Keeps, Lists, ResolvedAt, TakeEffect, known, of_fields, steps_of}
 use Rattle.ti_source.proofs.StandsForLaws.{merged-says, stands-for}
 use Rattle.ti_source.proofs.MergedBackLaws.{value_of_capability-append, or-none}
 use Rattle.ti_source.proofs.TaskLaws.{resolve-cons, resolved-at}

@@ -11,7 +11,7 @@ use Rattle.ti_source.specs.declared.reading.statement.Statement.{Statement}
 use Rattle.ti_source.specs.Resolving.Uses.{flag_by, flag_in, merged, number_by, number_in, text_by, text_in}
 use Rattle.ti_caps.specs.Slots.{positions_of}
 use Rattle.ti_source.specs.Code.Laid.{IsLaid}
-use Rattle.ti_source.specs.Code.Walk.{of_fields}
+use Rattle.ti_source.specs.Code.EntryWalk.{of_fields}
 
 -- two functions that agree on some numbers
 range-same : {A : Type 0} → (f g : ℕ → A) (k n : ℕ) → ((j : ℕ) → k ≤ j → j < k + n → g j ≡ f j) → map g (range_with_len k n) ≡ map f (range_with_len k n)

@@ -14,7 +14,7 @@ use Rattle.ti_source.specs.Resolving.Named.{index_of}
 use Rattle.ti_source.specs.Resolving.Uses.{Resolve, merged, more, nothing, value_of_capability}
 use Rattle.ti_source.specs.Code.FirstFields.{IsIndex, first_of, first_value, if_present, ordinal, value_in}
 use Rattle.ti_source.specs.Code.Leading.{AddNothing, AddSoFar, Covers, IsUseAt, Leads, is_before, is_stated}
-use Rattle.ti_source.specs.Code.Walk.{AreKnown, TakeEffect, known}
+use Rattle.ti_source.specs.Code.EntryWalk.{AreKnown, TakeEffect, known}
 use Rattle.ti_source.proofs.ChainLaws.{resolve-append}
 use Rattle.ti_source.proofs.EffectiveLaws.{field_value-of-first}
 use Rattle.ti_source.proofs.FirstFieldLaws.{same-ordinal}

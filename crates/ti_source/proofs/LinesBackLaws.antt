@@ -4,7 +4,7 @@ use Rattle.std.specs.List.{list_all}
 use Rattle.std.proofs.lemmas.Bool.Decides.{nat_tests}
 use Rattle.bstr.specs.Text.{line_len, lines_of, no_cr, without_terminator}
 use Rattle.bstr.proofs.lemmas.LineLemmas.{lines-nil, lines-step}
-use Rattle.ti_source.specs.Reading.Line.{lines}
+use Rattle.ti_source.specs.Reading.SourceLine.{lines}
 
 -- not a line feed
 abbrev pub no_feed : ℕ → Bool

@@ -9,7 +9,7 @@ use Rattle.ti_source.specs.Described.{Described}
 use Rattle.ti_source.specs.Resolving.Named.{index_of}
 use Rattle.ti_source.specs.Code.FirstFields.{AreEffective}
 use Rattle.ti_source.specs.Code.Leading.{Leads}
-use Rattle.ti_source.specs.Code.Walk.{Adds, AddsGathered, AreBelow, AreKnown, IsBelow, IsDone, IsLedOver, IsLight, IsOver, Keeps, Lists, TakeEffect, known, larger, steps_at, steps_of_all, steps_or_0}
+use Rattle.ti_source.specs.Code.EntryWalk.{Adds, AddsGathered, AreBelow, AreKnown, IsBelow, IsDone, IsLedOver, IsLight, IsOver, Keeps, Lists, TakeEffect, known, larger, steps_at, steps_of_all, steps_or_0}
 use Rattle.ti_source.proofs.GatherLaws.{effective-lists, gathers-one, resolve-known, take-effect}
 use Rattle.ti_source.proofs.IndexLaws.{take-at}
 

@@ -6,7 +6,7 @@ use Rattle.ti_source.specs.declared.reading.statement.Statement.{Statement}
 use Rattle.ti_source.specs.declared.resolving.marks.Mark.{Mark}
 use Rattle.ti_source.specs.declared.resolving.marks.Mark.TheVariants.{New, Open, Done, Over, Kept, Faulty}
 use Rattle.ti_source.specs.Described.{Described}
-use Rattle.ti_source.specs.Code.Walk.{AreBelow, IsBelow, IsMarkOf, known, steps_at, steps_of}
+use Rattle.ti_source.specs.Code.EntryWalk.{AreBelow, IsBelow, IsMarkOf, known, steps_at, steps_of}
 use Rattle.ti_source.proofs.IndexLaws.{get-other}
 
 -- what is known stays known, in no more steps

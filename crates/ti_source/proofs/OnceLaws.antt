@@ -10,7 +10,7 @@ use Rattle.ti_source.specs.Described.{Described}
 use Rattle.ti_source.specs.Resolving.Named.{found_from, index_of}
 use Rattle.ti_source.specs.Resolving.Uses.{merged, Resolve, nothing, more, Fault, unknown, cycle, below, later, Resolved, Unresolved, FaultOnce, ResolveOrFault}
 use Rattle.ti_source.specs.Result.{Stops}
-use Rattle.ti_source.specs.Code.Walk.{FaultAt}
+use Rattle.ti_source.specs.Code.EntryWalk.{FaultAt}
 use Rattle.ti_source.proofs.NamedLaws.{found-there}
 
 -- ---- what a resolved list of names rests on

@@ -2,7 +2,7 @@
 use Rattle.std.proofs.Common.{◌≡◌, ◌≤◌, ◌<◌, ℕ, zero, suc, ◌+◌, ◌-◌, List, [], ◌∷◌, ◌++◌, Some, length, take, drop, slice_get, slice_index_or, sym, ap, refl, arith}
 use Rattle.std.proofs.lemmas.List.{take-append-le, drop-append-le, length-drop}
 use Rattle.std.proofs.Math.Seq.{drop-append_seam, take-length}
-use Rattle.ti_source.specs.Code.Parts.{AreEnds, parts_from, start_at}
+use Rattle.ti_source.specs.Code.PackedLists.{AreEnds, parts_from, start_at}
 
 pub ends-after : (start all : ℕ) (ends : List ℕ) → AreEnds start all ends → start ≤ all
 ends-after start all [] h = omega arith

@@ -12,7 +12,7 @@ use Rattle.ti_source.specs.declared.reading.statement.FieldValue.{FieldValue}
 use Rattle.ti_source.specs.Described.{Described}
 use Rattle.ti_source.specs.Reading.Escape.{IsText}
 use Rattle.ti_source.specs.Reading.Field.{fields, is_blank}
-use Rattle.ti_source.specs.Reading.Line.{Line, Skipped, NonAscii, Begins, begins_blank, begins_hash, is_ascii, is_comma, line_of, lines}
+use Rattle.ti_source.specs.Reading.SourceLine.{SourceLine, Skipped, NonAscii, Begins, begins_blank, begins_hash, is_ascii, is_comma, line_of, lines}
 use Rattle.ti_source.specs.Resolving.Named.{found_from, has_name}
 use Rattle.ti_source.specs.Printing.Print.{flag_line, lines_from, number_line, text_line, named_only, printed}
 use Rattle.ti_source.specs.Reading.Sources.{concerns, continuing, each_beside, field_fault, meaning, names_faults, numbered, numbered_fields, source_lines, source_of, unless_faulty}
@@ -106,7 +106,7 @@ nothing-after : (bs : List ℕ) → list_all is_name_byte bs ≡ true → after_
 nothing-after bs e =
     ap (λ k. drop (k + 1) (bs ++ 44 ∷ [])) (comma-at bs e) ∙ ap (λ k. drop k (bs ++ 44 ∷ [])) (one-more (length bs)) ∙ drop-one-more bs (44 ∷ [])
 
-chain : (h a k t : Bool) (x y : Line) → h ≡ false → a ≡ false → k ≡ true → t ≡ false → cond h Skipped (cond a Skipped (cond k (cond t x y) NonAscii)) ≡ y
+chain : (h a k t : Bool) (x y : SourceLine) → h ≡ false → a ≡ false → k ≡ true → t ≡ false → cond h Skipped (cond a Skipped (cond k (cond t x y) NonAscii)) ≡ y
 chain h a k t x y p q r s = rw (p, q, r, s) refl
 
 begins : (bytes : List ℕ) → begins_hash bytes ≡ false → list_all is_blank bytes ≡ false → list_all is_ascii bytes ≡ true → begins_blank bytes ≡ false → line_of bytes ≡ Begins (before_first is_comma bytes) (fields (after_first is_comma bytes))
@@ -201,9 +201,9 @@ unfolding meaning
 holds-nothing = record { statements = refl; notes = refl; faults = refl; uses = refl }
 
 -- a line of names and others, which are cut to their end
-cut-block : (text names rest : List ℕ) (taken : List (ℕ × Line)) (n : ℕ) → are_names names ≡ true → text ≡ ended names rest → numbered 2 (lines rest) ≡ taken ++ numbered n (lines []) → source_lines text ≡ (1, Begins names ([] ∷ [])) ∷ taken
+cut-block : (text names rest : List ℕ) (taken : List (ℕ × SourceLine)) (n : ℕ) → are_names names ≡ true → text ≡ ended names rest → numbered 2 (lines rest) ≡ taken ++ numbered n (lines []) → source_lines text ≡ (1, Begins names ([] ∷ [])) ∷ taken
 cut-block text names rest taken n good is cut =
-    let begin : Line → List (ℕ × Line) = λ l. (1, l) ∷ numbered 2 (lines rest) in
+    let begin : SourceLine → List (ℕ × SourceLine) = λ l. (1, l) ∷ numbered 2 (lines rest) in
     let here : source_lines text ≡ begin (line_of (names ++ 44 ∷ [])) =
     ap source_lines is ∙ ap (numbered 1) (lines-ended names rest (all-no_feed names (names-are names good).letters)) in
     let none : (taken ++ numbered n (lines [])) ≡ taken = ap (λ ls. taken ++ numbered n ls) no-lines ∙ append-nil taken in

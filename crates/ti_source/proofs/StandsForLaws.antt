@@ -13,7 +13,7 @@ use Rattle.ti_source.specs.Described.{Described}
 use Rattle.ti_source.specs.Resolving.Uses.{first_number, first_text, flag_by, flag_in, merged, number_by, number_in, value_of_capability, text_by, text_in}
 use Rattle.ti_source.specs.Code.FirstFields.{AreEffective, first_value, flag_value, if_present, number_value, value_in, text_value}
 use Rattle.ti_caps.specs.Slots.{positions_of}
-use Rattle.ti_source.specs.Code.Walk.{Gathers, StandsFor}
+use Rattle.ti_source.specs.Code.EntryWalk.{Gathers, StandsFor}
 
 -- the first of the used entries that speaks
 first-flag : (us : List Description) (slot : ℕ) → first_value us Flag slot ≡ flag_value (list_any (λ u. flag_at u slot) us)

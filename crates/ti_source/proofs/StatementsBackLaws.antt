@@ -8,7 +8,7 @@ use Rattle.ti_caps.specs.declared.table.Kind.{Kind}
 use Rattle.ti_caps.specs.Table.{name_at, same_kind}
 use Rattle.ti_source.specs.declared.reading.statement.FieldValue.{FieldValue}
 use Rattle.ti_source.specs.declared.reading.statement.Statement.{Statement}
-use Rattle.ti_source.specs.Reading.Line.{lines}
+use Rattle.ti_source.specs.Reading.SourceLine.{lines}
 use Rattle.ti_source.specs.Printing.Print.{field_line, lines_from}
 use Rattle.ti_source.specs.Reading.Sources as source
 use Rattle.ti_source.specs.Reading.Sources.{NumberedField, concerns, continuing, each_after, each_beside, field_fault, is_given, meaning, meant_use, next_line, note, numbered, numbered_fields, uses}

@@ -6,12 +6,12 @@ use Rattle.ti_caps.specs.Description.{Description}
 use Rattle.ti_source.specs.declared.faults.SourceFault.{SourceFault}
 use Rattle.ti_source.specs.declared.resolving.marks.Mark.{Mark}
 use Rattle.ti_source.specs.declared.resolving.marks.Mark.TheVariants.{New, Open, Done, Over, Kept, Faulty}
-use Rattle.ti_source.specs.declared.resolving.walk.Task.{Task}
-use Rattle.ti_source.specs.declared.resolving.walk.Task.TheVariants.{Visit, Leave}
+use Rattle.ti_source.specs.declared.resolving.walk.EntryTask.{EntryTask}
+use Rattle.ti_source.specs.declared.resolving.walk.EntryTask.TheVariants.{Visit, Leave}
 use Rattle.ti_source.specs.Described.{Described}
 use Rattle.ti_source.specs.Resolving.Named.{found_from, index_of}
 use Rattle.ti_source.specs.Resolving.Uses.{merged, Resolve, nothing, more, Fault, unknown, cycle, below, later, Resolved}
-use Rattle.ti_source.specs.Code.Walk.{visits, leaves, indices, ResolvedAt, FaultIn, steps_of, steps_at, known, AreKnown, IsAmong, Within, AllWithin, Held, count_new, one_if_new}
+use Rattle.ti_source.specs.Code.EntryWalk.{visits, leaves, indices, ResolvedAt, FaultIn, steps_of, steps_at, known, AreKnown, IsAmong, Within, AllWithin, Held, count_new, one_if_new}
 use Rattle.ti_source.proofs.NamedLaws.{found-there, found-some}
 use Rattle.ti_source.proofs.IndexLaws.{get-lt}
 
@@ -60,7 +60,7 @@ pub visits-drop : (entries : List Described) (us : List (List ℕ)) (k : ℕ) (u
 visits-drop entries us k u lt is =
     ap (visits entries) (drop_more us k u lt ∙ ap (λ x. x ∷ drop (k + 1) us) (sym is))
 
-pub leaves-visits : (entries : List Described) (us : List (List ℕ)) (rest : List Task) → leaves (visits entries us ++ rest) ≡ leaves rest
+pub leaves-visits : (entries : List Described) (us : List (List ℕ)) (rest : List EntryTask) → leaves (visits entries us ++ rest) ≡ leaves rest
 leaves-visits entries [] rest = refl
 leaves-visits entries (u ∷ us) rest = leaves-visits entries us rest
 
@@ -85,14 +85,14 @@ pub all-known : (marks : List Mark) (ps : List (Option ℕ)) → AllWithin marks
 all-known marks [] h = tt
 all-known marks (p ∷ ps) h = (elim h.0 [ inl k ↦ k | inr a ↦ absurd a ], all-known marks ps h.1)
 
-pub held-mono : (entries : List Described) (marks after : List Mark) (first firsts : List (Option ℕ)) (tasks : List Task) → ((p : Option ℕ) → Within marks first p → Within after firsts p) → Held entries marks first tasks → Held entries after firsts tasks
+pub held-mono : (entries : List Described) (marks after : List Mark) (first firsts : List (Option ℕ)) (tasks : List EntryTask) → ((p : Option ℕ) → Within marks first p → Within after firsts p) → Held entries marks first tasks → Held entries after firsts tasks
 held-mono entries marks after first firsts [] sub h = tt
 held-mono entries marks after first firsts (Visit q ∷ tasks) sub h =
     held-mono entries marks after (q ∷ first) (q ∷ firsts) tasks (within-cons marks after first firsts q sub) h
 held-mono entries marks after first firsts (Leave i ∷ tasks) sub h =
     ((h.0.0, h.0.1, all-mono marks after first firsts sub (map (index_of entries) h.0.0.uses) h.0.2), held-mono entries marks after (Some i ∷ first) (Some i ∷ firsts) tasks (within-cons marks after first firsts (Some i) sub) h.1)
 
-pub held-visits : (entries : List Described) (marks : List Mark) (us : List (List ℕ)) (first : List (Option ℕ)) (rest : List Task) → ((firsts : List (Option ℕ)) → ((p : Option ℕ) → (IsAmong p (map (index_of entries) us) ⊎ Within marks first p) → Within marks firsts p) → Held entries marks firsts rest) → Held entries marks first (visits entries us ++ rest)
+pub held-visits : (entries : List Described) (marks : List Mark) (us : List (List ℕ)) (first : List (Option ℕ)) (rest : List EntryTask) → ((firsts : List (Option ℕ)) → ((p : Option ℕ) → (IsAmong p (map (index_of entries) us) ⊎ Within marks first p) → Within marks firsts p) → Held entries marks firsts rest) → Held entries marks first (visits entries us ++ rest)
 held-visits entries marks [] first rest k = k first (λ p w. elim w [ inl a ↦ absurd a | inr x ↦ x ])
 held-visits entries marks (u ∷ us) first rest k =
     held-visits entries marks us (index_of entries u ∷ first) rest (λ firsts sub. k firsts (λ p w. elim w [
@@ -100,7 +100,7 @@ held-visits entries marks (u ∷ us) first rest k =
       | inr x ↦ sub p (inr (within-further marks first (index_of entries u) p x))
     ]))
 
-pub indices-visits : (marks : List Mark) (entries : List Described) (us : List (List ℕ)) (rest : List Task) (p : Option ℕ) → Within marks (indices rest) p → Within marks (indices (visits entries us ++ rest)) p
+pub indices-visits : (marks : List Mark) (entries : List Described) (us : List (List ℕ)) (rest : List EntryTask) (p : Option ℕ) → Within marks (indices rest) p → Within marks (indices (visits entries us ++ rest)) p
 indices-visits marks entries [] rest p h = h
 indices-visits marks entries (u ∷ us) rest p h =
     within-further marks (indices (visits entries us ++ rest)) (index_of entries u) p (indices-visits marks entries us rest p h)
@@ -151,7 +151,7 @@ fault-more entries chain name names fault one = by one refl
     by (below {name = n} {found = x} e c f) p = let named : n ≡ name = cc in below {found = x} (rw (← named) e) c f
     by (later {names = ms} {fault = g} r f) p = let none : ms ≡ [] = cc in absurd (no-fault entries _ ms g f none)
 
-faults-of-visits : (entries : List Described) (i : ℕ) (tasks : List Task) (us : List (List ℕ)) (fault : SourceFault) → FaultIn entries (visits entries us ++ Leave i ∷ tasks) fault → Fault entries (i ∷ leaves tasks) us fault ⊎ (((ds : List Description) × Resolve entries us ds) × FaultIn entries tasks fault)
+faults-of-visits : (entries : List Described) (i : ℕ) (tasks : List EntryTask) (us : List (List ℕ)) (fault : SourceFault) → FaultIn entries (visits entries us ++ Leave i ∷ tasks) fault → Fault entries (i ∷ leaves tasks) us fault ⊎ (((ds : List Description) × Resolve entries us ds) × FaultIn entries tasks fault)
 faults-of-visits entries i tasks [] fault h = inr (([], nothing), h)
 faults-of-visits entries i tasks (u ∷ us) fault (inl h) =
     let P : List ℕ → Type 0 = λ chain. Fault entries chain (u ∷ []) fault in
@@ -163,7 +163,7 @@ faults-of-visits entries i tasks (u ∷ us) fault (inr h) =
       | inr r ↦ inr ((h.0.0 ∷ r.0.0, resolve-cons entries u us h.0.0 r.0.0 (h.0.1 u refl) r.0.1), r.1)
     ]
 
-pub enter-lifts : (entries : List Described) (i : ℕ) (d : Described) (tasks : List Task) → slice_get entries i ≡ Some d → list_any (λ j. eqb j i) (leaves tasks) ≡ false → (fault : SourceFault) → FaultIn entries (visits entries d.uses ++ Leave i ∷ tasks) fault → FaultIn entries (Visit (Some i) ∷ tasks) fault
+pub enter-lifts : (entries : List Described) (i : ℕ) (d : Described) (tasks : List EntryTask) → slice_get entries i ≡ Some d → list_any (λ j. eqb j i) (leaves tasks) ≡ false → (fault : SourceFault) → FaultIn entries (visits entries d.uses ++ Leave i ∷ tasks) fault → FaultIn entries (Visit (Some i) ∷ tasks) fault
 enter-lifts entries i d tasks at off fault h =
     elim (faults-of-visits entries i tasks d.uses fault h) [
       | inl f ↦ inl (λ name index. below (found-at entries name i d index at) off f)

@@ -9,14 +9,14 @@ use Rattle.ti_source.specs.declared.faults.SourceFault.TheVariants.{UnknownName,
 use Rattle.ti_source.specs.declared.reading.statement.Statement.{Statement}
 use Rattle.ti_source.specs.declared.resolving.marks.Mark.{Mark}
 use Rattle.ti_source.specs.declared.resolving.marks.Mark.TheVariants.{New, Open, Done, Over, Kept, Faulty}
-use Rattle.ti_source.specs.declared.resolving.walk.Task.{Task}
-use Rattle.ti_source.specs.declared.resolving.walk.Task.TheVariants.{Visit, Leave}
-use Rattle.ti_source.specs.declared.resolving.walk.Walk.{Walk}
+use Rattle.ti_source.specs.declared.resolving.walk.EntryTask.{EntryTask}
+use Rattle.ti_source.specs.declared.resolving.walk.EntryTask.TheVariants.{Visit, Leave}
+use Rattle.ti_source.specs.declared.resolving.walk.EntryWalk.{EntryWalk}
 use Rattle.ti_source.specs.Described.{Described}
 use Rattle.ti_source.specs.Resolving.Named.{index_of}
 use Rattle.ti_source.specs.Resolving.Uses.{cycle, merged, unknown}
 use Rattle.ti_source.specs.Result.{Stops}
-use Rattle.ti_source.specs.Code.Walk.{visits, leaves, indices, FaultAt, FaultIn, known, AreKnown, IsLight, IsMarkOf, Keeps, TakeEffect, Within, IsWalk, count_new, one_if_new, steps_of, Stepped, StuckAt, IsReady, IsStopped, IsTakenBack, with_fault}
+use Rattle.ti_source.specs.Code.EntryWalk.{visits, leaves, indices, FaultAt, FaultIn, known, AreKnown, IsLight, IsMarkOf, Keeps, TakeEffect, Within, IsWalk, count_new, one_if_new, steps_of, Stepped, StuckAt, IsReady, IsStopped, IsTakenBack, with_fault}
 use Rattle.ti_source.proofs.ChainLaws.{awaited-done, awaited-entered, faulty-at, open-unknown, ready-again, ready-back}
 use Rattle.ti_source.proofs.GatherLaws.{known-resolved, mark-resolved}
 use Rattle.ti_source.proofs.LoweringLaws.{Extends, Lowers, lowers-set, mark-lower}
@@ -26,7 +26,7 @@ use Rattle.ti_source.proofs.TaskLaws.{all-from, all-known, count-known, count-op
 
 -- ---- each kind of task
 
-pub entered-stepped : (entries : List Described) (marks after : List Mark) (kept : List (List Statement)) (i : ℕ) (d : Described) (tasks left : List Task) → IsWalk entries marks kept (Visit (Some i) ∷ tasks) → slice_get marks i ≡ Some New → slice_get entries i ≡ Some d → length d.uses ≤ 32 → after ≡ set marks i Open → left ≡ visits entries d.uses ++ Leave i ∷ tasks → Stepped entries marks (Visit (Some i) ∷ tasks) after kept left
+pub entered-stepped : (entries : List Described) (marks after : List Mark) (kept : List (List Statement)) (i : ℕ) (d : Described) (tasks left : List EntryTask) → IsWalk entries marks kept (Visit (Some i) ∷ tasks) → slice_get marks i ≡ Some New → slice_get entries i ≡ Some d → length d.uses ≤ 32 → after ≡ set marks i Open → left ≡ visits entries d.uses ++ Leave i ∷ tasks → Stepped entries marks (Visit (Some i) ∷ tasks) after kept left
 entered-stepped entries marks after kept i d tasks left w new at few after-is left-is =
     rw (after-is, left-is) (record {
       walk = record {
@@ -91,7 +91,7 @@ entered-stepped entries marks after kept i d tasks left w new at few after-is le
         omega arith
 
 -- a mark that is known
-pub done-stepped : (entries : List Described) (marks : List Mark) (kept : List (List Statement)) (i : ℕ) (m : Mark) (tasks : List Task) → IsWalk entries marks kept (Visit (Some i) ∷ tasks) → slice_get marks i ≡ Some m → is_some (steps_of (Some m)) ≡ true → Stepped entries marks (Visit (Some i) ∷ tasks) marks kept tasks
+pub done-stepped : (entries : List Described) (marks : List Mark) (kept : List (List Statement)) (i : ℕ) (m : Mark) (tasks : List EntryTask) → IsWalk entries marks kept (Visit (Some i) ∷ tasks) → slice_get marks i ≡ Some m → is_some (steps_of (Some m)) ≡ true → Stepped entries marks (Visit (Some i) ∷ tasks) marks kept tasks
 done-stepped entries marks kept i m tasks w at some =
     let r = known-resolved entries marks kept i w.keeps there in
     let resolved = resolved-at entries i r.entry r.used r.at r.resolved in
@@ -128,7 +128,7 @@ known-old (Kept k) h = refl
 known-old (Faulty f) h = refl
 
 -- an entry that is left with a mark that is known
-done-left : (entries : List Described) (marks after : List Mark) (kept after_kept : List (List Statement)) (i : ℕ) (mark : Mark) (tasks : List Task) → IsWalk entries marks kept (Leave i ∷ tasks) → is_some (steps_of (Some mark)) ≡ true → IsMarkOf entries marks after_kept i mark → Extends kept after_kept → after ≡ set marks i mark → Stepped entries marks (Leave i ∷ tasks) after after_kept tasks
+done-left : (entries : List Described) (marks after : List Mark) (kept after_kept : List (List Statement)) (i : ℕ) (mark : Mark) (tasks : List EntryTask) → IsWalk entries marks kept (Leave i ∷ tasks) → is_some (steps_of (Some mark)) ≡ true → IsMarkOf entries marks after_kept i mark → Extends kept after_kept → after ≡ set marks i mark → Stepped entries marks (Leave i ∷ tasks) after after_kept tasks
 done-left entries marks after kept after_kept i mark tasks w some says extends after-is =
     let r = mark-resolved entries marks after_kept i mark some says in
     rw after-is (record {
@@ -198,12 +198,12 @@ done-left entries marks after kept after_kept i mark tasks w some says extends a
     known-first p firsts (inr (inl e)) = inl (rw e there)
     known-first p firsts (inr (inr a)) = inr a
 
-pub left-stepped : (entries : List Described) (marks after : List Mark) (kept after_kept : List (List Statement)) (i : ℕ) (fields : List Statement) (tasks : List Task) → IsWalk entries marks kept (Leave i ∷ tasks) → TakeEffect entries i fields → after ≡ set marks i (Kept (length kept)) → after_kept ≡ kept ++ fields ∷ [] → Stepped entries marks (Leave i ∷ tasks) after after_kept tasks
+pub left-stepped : (entries : List Described) (marks after : List Mark) (kept after_kept : List (List Statement)) (i : ℕ) (fields : List Statement) (tasks : List EntryTask) → IsWalk entries marks kept (Leave i ∷ tasks) → TakeEffect entries i fields → after ≡ set marks i (Kept (length kept)) → after_kept ≡ kept ++ fields ∷ [] → Stepped entries marks (Leave i ∷ tasks) after after_kept tasks
 left-stepped entries marks after kept after_kept i fields tasks w keep after-is kept-is =
     rw kept-is (done-left entries marks after kept (kept ++ fields ∷ []) i (Kept (length kept)) tasks w refl (fields, get-push kept fields, keep) (λ j others at. get-append kept (fields ∷ []) j others at) after-is)
 
 -- the same where no fields are kept
-pub light-stepped : (entries : List Described) (marks after : List Mark) (kept : List (List Statement)) (i : ℕ) (d : Described) (mark : Mark) (tasks : List Task) → IsWalk entries marks kept (Leave i ∷ tasks) → slice_get entries i ≡ Some d → IsLight entries marks kept d mark → after ≡ set marks i mark → Stepped entries marks (Leave i ∷ tasks) after kept tasks
+pub light-stepped : (entries : List Described) (marks after : List Mark) (kept : List (List Statement)) (i : ℕ) (d : Described) (mark : Mark) (tasks : List EntryTask) → IsWalk entries marks kept (Leave i ∷ tasks) → slice_get entries i ≡ Some d → IsLight entries marks kept d mark → after ≡ set marks i mark → Stepped entries marks (Leave i ∷ tasks) after kept tasks
 light-stepped entries marks after kept i d mark tasks w at light after-is =
     done-left entries marks after kept kept i mark tasks w (ap is_some light.1) (light.2 i at) (λ j others there. there) after-is
 
@@ -234,20 +234,20 @@ finished-ready entries marks after kept i w after-is = ready-back entries marks 
         absurd (ne same)
     by j mark at ne false is = get-other marks i j New (grind (arith, nat_tests)) ∙ at
 
-pub leave-known : (entries : List Described) (marks : List Mark) (kept : List (List Statement)) (i : ℕ) (tasks : List Task) → IsWalk entries marks kept (Leave i ∷ tasks) → (d : Described) × (slice_get entries i ≡ Some d) × AreKnown marks (map (index_of entries) d.uses)
+pub leave-known : (entries : List Described) (marks : List Mark) (kept : List (List Statement)) (i : ℕ) (tasks : List EntryTask) → IsWalk entries marks kept (Leave i ∷ tasks) → (d : Described) × (slice_get entries i ≡ Some d) × AreKnown marks (map (index_of entries) d.uses)
 leave-known entries marks kept i tasks w = (w.held.0.0, w.held.0.1, all-known marks (map (index_of entries) w.held.0.0.uses) w.held.0.2)
 
-pub cycle-at : (entries : List Described) (marks : List Mark) (kept : List (List Statement)) (i : ℕ) (tasks : List Task) → IsWalk entries marks kept (Visit (Some i) ∷ tasks) → slice_get marks i ≡ Some Open → FaultAt entries (leaves tasks) (Some i) UseCycle
+pub cycle-at : (entries : List Described) (marks : List Mark) (kept : List (List Statement)) (i : ℕ) (tasks : List EntryTask) → IsWalk entries marks kept (Visit (Some i) ∷ tasks) → slice_get marks i ≡ Some Open → FaultAt entries (leaves tasks) (Some i) UseCycle
 cycle-at entries marks kept i tasks w at name index =
     let lt = index-there entries name i index in
     let d = get-within entries i lt in
     cycle (found-at entries name i d.0 index d.1) (w.opened i at)
 
-pub past-at : (entries : List Described) (marks : List Mark) (kept : List (List Statement)) (i : ℕ) (tasks : List Task) → IsWalk entries marks kept (Visit (Some i) ∷ tasks) → slice_get marks i ≡ None → FaultAt entries (leaves tasks) (Some i) UnknownName
+pub past-at : (entries : List Described) (marks : List Mark) (kept : List (List Statement)) (i : ℕ) (tasks : List EntryTask) → IsWalk entries marks kept (Visit (Some i) ∷ tasks) → slice_get marks i ≡ None → FaultAt entries (leaves tasks) (Some i) UnknownName
 past-at entries marks kept i tasks w none name index =
     let lt = index-there entries name i index in let all = w.sized in let past = get-none marks i none in absurd (omega arith)
 
-pub marked-at : (entries : List Described) (marks : List Mark) (kept : List (List Statement)) (i : ℕ) (fault : SourceFault) (tasks : List Task) → IsWalk entries marks kept (Visit (Some i) ∷ tasks) → slice_get marks i ≡ Some (Faulty fault) → FaultAt entries (leaves tasks) (Some i) fault
+pub marked-at : (entries : List Described) (marks : List Mark) (kept : List (List Statement)) (i : ℕ) (fault : SourceFault) (tasks : List EntryTask) → IsWalk entries marks kept (Visit (Some i) ∷ tasks) → slice_get marks i ≡ Some (Faulty fault) → FaultAt entries (leaves tasks) (Some i) fault
 marked-at entries marks kept i fault tasks w at = faulty-at entries tasks i fault w.awaited (w.faulty i fault at)
 
 pub unknown-at : (entries : List Described) (chain : List ℕ) → FaultAt entries chain None UnknownName
@@ -255,12 +255,12 @@ unknown-at entries chain name index = unknown (found-none name entries (sym inde
 
 -- ---- the whole way to a place
 
-pub record IsReaching (entries : List Described) (before : List Mark) (index : Option ℕ) (marks : List Mark) (kept : List (List Statement)) (tasks : List Task) : Type 0 where
+pub record IsReaching (entries : List Described) (before : List Mark) (index : Option ℕ) (marks : List Mark) (kept : List (List Statement)) (tasks : List EntryTask) : Type 0 where
   pub walk : IsWalk entries marks kept tasks
   pub lifts : (fault : SourceFault) → FaultIn entries tasks fault → FaultIn entries (Visit index ∷ []) fault
   pub carries : (p : Option ℕ) → Within before (index ∷ []) p → Within marks (indices tasks) p
 
-pub reaching-init : (entries : List Described) (marks : List Mark) (kept : List (List Statement)) (index : Option ℕ) (tasks : List Task) → IsWalk entries marks kept [] → tasks ≡ Visit index ∷ [] → IsReaching entries marks index marks kept tasks
+pub reaching-init : (entries : List Described) (marks : List Mark) (kept : List (List Statement)) (index : Option ℕ) (tasks : List EntryTask) → IsWalk entries marks kept [] → tasks ≡ Visit index ∷ [] → IsReaching entries marks index marks kept tasks
 reaching-init entries marks kept index tasks w is =
     rw is (record {
       walk = record { sized = w.sized; opened = w.opened; fresh = w.fresh; chain = w.chain; keeps = w.keeps; held = tt; awaited = tt; faulty = w.faulty };
@@ -268,7 +268,7 @@ reaching-init entries marks kept index tasks w is =
       carries = λ p h. h;
     })
 
-pub reaching-go : (entries : List Described) (before : List Mark) (index : Option ℕ) (marks after : List Mark) (kept after_kept : List (List Statement)) (tasks left : List Task) → IsReaching entries before index marks kept tasks → Stepped entries marks tasks after after_kept left → IsReaching entries before index after after_kept left
+pub reaching-go : (entries : List Described) (before : List Mark) (index : Option ℕ) (marks after : List Mark) (kept after_kept : List (List Statement)) (tasks left : List EntryTask) → IsReaching entries before index marks kept tasks → Stepped entries marks tasks after after_kept left → IsReaching entries before index after after_kept left
 reaching-go entries before index marks after kept after_kept tasks left r s =
     record {
       walk = s.walk;
@@ -276,27 +276,27 @@ reaching-go entries before index marks after kept after_kept tasks left r s =
       carries = λ p h. s.carries p (r.carries p h);
     }
 
-pub reaching-known : (entries : List Described) (before : List Mark) (index : Option ℕ) (marks : List Mark) (kept : List (List Statement)) (tasks : List Task) → IsReaching entries before index marks kept tasks → tasks ≡ [] → known marks index ≡ true
+pub reaching-known : (entries : List Described) (before : List Mark) (index : Option ℕ) (marks : List Mark) (kept : List (List Statement)) (tasks : List EntryTask) → IsReaching entries before index marks kept tasks → tasks ≡ [] → known marks index ≡ true
 reaching-known entries before index marks kept tasks r none =
-    let P : List Task → Type 0 = λ ts. Within marks (indices ts) index in
+    let P : List EntryTask → Type 0 = λ ts. Within marks (indices ts) index in
     elim (subst P none (r.carries index (inr (inl refl)))) [ inl k ↦ k | inr a ↦ absurd a ]
 
-pub reaching-fault : (entries : List Described) (before : List Mark) (index : Option ℕ) (marks : List Mark) (kept : List (List Statement)) (tasks : List Task) (fault : SourceFault) → IsReaching entries before index marks kept tasks → FaultIn entries tasks fault → FaultAt entries [] index fault
+pub reaching-fault : (entries : List Described) (before : List Mark) (index : Option ℕ) (marks : List Mark) (kept : List (List Statement)) (tasks : List EntryTask) (fault : SourceFault) → IsReaching entries before index marks kept tasks → FaultIn entries tasks fault → FaultAt entries [] index fault
 reaching-fault entries before index marks kept tasks fault r h =
     elim (r.lifts fault h) [ inl f ↦ f | inr x ↦ absurd x.1 ]
 
-pub stuck-fault : (entries : List Described) (before : List Mark) (index : Option ℕ) (w after : Walk) (task : Task) (fault : SourceFault) → IsReaching entries before index w.marks.items w.kept.items (task ∷ reverse w.tasks.items) → StuckAt entries w task fault after → FaultAt entries [] index fault
+pub stuck-fault : (entries : List Described) (before : List Mark) (index : Option ℕ) (w after : EntryWalk) (task : EntryTask) (fault : SourceFault) → IsReaching entries before index w.marks.items w.kept.items (task ∷ reverse w.tasks.items) → StuckAt entries w task fault after → FaultAt entries [] index fault
 stuck-fault entries before index w after task fault r s =
     reaching-fault entries before index w.marks.items w.kept.items (task ∷ reverse w.tasks.items) fault r (rw (s.visit) (inl s.stuck))
 
-pub stuck-ready : (entries : List Described) (before : List Mark) (index : Option ℕ) (w after : Walk) (task : Task) (fault : SourceFault) (marks : List Mark) → IsReaching entries before index w.marks.items w.kept.items (task ∷ reverse w.tasks.items) → StuckAt entries w task fault after → marks ≡ with_fault fault (leaves (reverse after.tasks.items)) after.marks.items → IsWalk entries marks after.kept.items []
+pub stuck-ready : (entries : List Described) (before : List Mark) (index : Option ℕ) (w after : EntryWalk) (task : EntryTask) (fault : SourceFault) (marks : List Mark) → IsReaching entries before index w.marks.items w.kept.items (task ∷ reverse w.tasks.items) → StuckAt entries w task fault after → marks ≡ with_fault fault (leaves (reverse after.tasks.items)) after.marks.items → IsWalk entries marks after.kept.items []
 stuck-ready entries before index w after task fault marks r s is =
     let walk = subst (λ t. IsWalk entries w.marks.items w.kept.items (t ∷ reverse w.tasks.items)) s.visit r.walk in
-    let marked = is ∙ ap (λ (x : Walk). with_fault fault (leaves (reverse x.tasks.items)) x.marks.items) s.same in
+    let marked = is ∙ ap (λ (x : EntryWalk). with_fault fault (leaves (reverse x.tasks.items)) x.marks.items) s.same in
     let ready = ready-again entries w.marks.items marks w.kept.items s.index (reverse w.tasks.items) fault walk s.stuck marked in
-    subst (λ (x : Walk). IsWalk entries marks x.kept.items []) (sym s.same) ready
+    subst (λ (x : EntryWalk). IsWalk entries marks x.kept.items []) (sym s.same) ready
 
-pub stopped-ready : (entries : List Described) (before : List Mark) (index : Option ℕ) (w after stopped : Walk) (task : Task) (fault : SourceFault) → IsReaching entries before index w.marks.items w.kept.items (task ∷ reverse w.tasks.items) → Stops fault (StuckAt entries w task fault after) → (after.marks.items ≡ w.marks.items) × (after.kept.items ≡ w.kept.items) → IsStopped fault (leaves (reverse after.tasks.items)) after.marks.items stopped.marks.items → stopped.kept.items ≡ after.kept.items → stopped.tasks.items ≡ [] → IsReady entries stopped
+pub stopped-ready : (entries : List Described) (before : List Mark) (index : Option ℕ) (w after stopped : EntryWalk) (task : EntryTask) (fault : SourceFault) → IsReaching entries before index w.marks.items w.kept.items (task ∷ reverse w.tasks.items) → Stops fault (StuckAt entries w task fault after) → (after.marks.items ≡ w.marks.items) × (after.kept.items ≡ w.kept.items) → IsStopped fault (leaves (reverse after.tasks.items)) after.marks.items stopped.marks.items → stopped.kept.items ≡ after.kept.items → stopped.tasks.items ≡ [] → IsReady entries stopped
 stopped-ready entries before index w after stopped task fault r why same marks kept none = (
   elim marks [
     | inl h ↦

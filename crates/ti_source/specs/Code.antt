@@ -5,7 +5,7 @@ pub mod Keyed
 pub mod Laid
 pub mod Marked
 pub mod Notes
-pub mod Parts
+pub mod PackedLists
 pub mod Plain
 pub mod Seen
 pub mod Blocks
@@ -13,4 +13,4 @@ pub mod Lines
 pub mod OpenEntry
 pub mod FirstFields
 pub mod Leading
-pub mod Walk
+pub mod EntryWalk

@@ -2,7 +2,7 @@
 pub mod Cutting
 pub mod Escape
 pub mod Field
-pub mod Line
+pub mod SourceLine
 pub mod Number
 pub mod Sources
 pub mod Spelling

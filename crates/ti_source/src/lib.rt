@@ -5,7 +5,7 @@ mod faults;
 mod note;
 mod notes;
 mod ordinals;
-mod parts;
+mod packed_lists;
 mod printing;
 mod reading;
 mod resolving;
@@ -19,7 +19,7 @@ pub use printing::printer::{
 };
 pub use reading::escape::{decode, texts_are_spelled};
 pub use reading::field::{Form, fields_are_cut, form_of, split_field};
-pub use reading::line::Line;
+pub use reading::line::SourceLine;
 pub use reading::lines::Lines;
 pub use reading::number::number;
 pub use reading::reader::{read, read_apart};

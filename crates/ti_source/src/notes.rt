@@ -4,7 +4,7 @@ ghost use Rattle.std.specs.Prelude.{◌≡◌, ◌≤◌, ◌<◌, ◌+◌, ◌-
 ghost use Rattle.ti_source.specs.Code.Notes.{start_of};
 
 use crate::note::{Cause, Note};
-use crate::parts::{end_after, part};
+use crate::packed_lists::{end_after, part};
 use std::alloc::{AllocError, Global};
 use std::marker::Model;
 use ti_caps::Bytes;

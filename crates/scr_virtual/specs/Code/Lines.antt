@@ -4,24 +4,24 @@ use Rattle.scr_cells.specs.CellViews.{CellView, blank_cell}
 use Rattle.scr_cells.specs.Grids.{grid_at, grid_row, grid_with_run}
 use Rattle.scr_windows.specs.declared.frames.WindowState.{WindowState}
 use Rattle.scr_windows.specs.Lending.{LentView}
-use Rattle.scr_virtual.specs.declared.parts.Part.{Part}
+use Rattle.scr_virtual.specs.declared.parts.ShownPart.{ShownPart}
 use Rattle.scr_virtual.specs.Ranges.{joined, joined_by}
 use Rattle.scr_virtual.specs.Taking.{columns_unlike, part_copied, wish_of}
 use Rattle.scr_virtual.specs.VirtualViews.{VirtualView, altered_at, range_at}
 
 -- the part lies in the window, and on a screen of so many rows and columns where it is shown; and it has a column
-pub record IsInside (rows columns : ℕ) (lent : LentView) (part : Part) : Type 0 where
+pub record IsInside (rows columns : ℕ) (lent : LentView) (part : ShownPart) : Type 0 where
   pub some : 1 ≤ part.columns
   pub lines : part.row + part.rows ≤ lent.window.frame.area.rows
   pub columns_of : part.column + part.columns ≤ lent.window.frame.area.columns
   pub bottom : part.top + part.rows ≤ rows
   pub right : part.left + part.columns ≤ columns
 
-abbrev pub IsShown : VirtualView → LentView → Part → Type 0
+abbrev pub IsShown : VirtualView → LentView → ShownPart → Type 0
 IsShown virtual lent part = IsInside virtual.picture.rows virtual.picture.columns lent part
 
 -- the cells of a line of the part
-abbrev pub part_line : LentView → Part → ℕ → List CellView
+abbrev pub part_line : LentView → ShownPart → ℕ → List CellView
 part_line lent part row = take part.columns (drop part.column (grid_row lent.lines (part.row + row)))
 
 -- the lines that are copied of a window that is lent: all, or those that are touched
@@ -49,7 +49,7 @@ line_copied row column cells virtual = record virtual {
 }
 
 -- lines of a part copied, and the cursor wished
-abbrev pub shown : Part → (ℕ → Bool) → (ℕ → ℕ → CellView) → WindowState → VirtualView → VirtualView
+abbrev pub shown : ShownPart → (ℕ → Bool) → (ℕ → ℕ → CellView) → WindowState → VirtualView → VirtualView
 shown part lines cells state virtual =
     let copied : VirtualView = part_copied part lines cells virtual in
     record copied { picture = record copied.picture { wish = wish_of part state } }

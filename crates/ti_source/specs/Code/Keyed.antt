@@ -5,7 +5,7 @@ use Rattle.std.specs.declared.hash.DefaultHasher.{DefaultHasher}
 use Rattle.std.specs.Hash.DefaultHasher as sip
 use Rattle.bstr.specs.Text.{lines_of}
 use Rattle.sha2.specs.Sha512.{sha512}
-use Rattle.ti_source.specs.Reading.Line.{begins_blank, begins_hash}
+use Rattle.ti_source.specs.Reading.SourceLine.{begins_blank, begins_hash}
 
 -- a line that is not a comment and does not begin with a blank
 abbrev pub begins_entry : List ℕ → Bool

@@ -9,7 +9,7 @@ use Rattle.ti_source.specs.Described.{Described}
 use Rattle.ti_source.specs.Resolving.Named.{index_of}
 use Rattle.ti_source.specs.Resolving.Uses.{Resolve, value_of_capability}
 use Rattle.ti_source.specs.Code.FirstFields.{first_value, ordinal}
-use Rattle.ti_source.specs.Code.Walk.{Gathers, Lists}
+use Rattle.ti_source.specs.Code.EntryWalk.{Gathers, Lists}
 
 -- the use with this number names the entry at this index
 abbrev pub IsUseAt : List Described → List (List ℕ) → ℕ → ℕ → Type 0

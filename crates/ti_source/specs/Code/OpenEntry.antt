@@ -4,7 +4,7 @@ use Rattle.ti_source.specs.declared.faults.SourceFault.{SourceFault}
 use Rattle.ti_source.specs.declared.note.Note.{Note}
 use Rattle.ti_source.specs.Described.{Described}
 use Rattle.ti_source.specs.Reading.Sources.{Meaning, NumberedField, continuing, each_after, each_beside, described, field_fault, meant_fault, meant_note, meant_statement, meant_use, note, unless_faulty}
-use Rattle.ti_source.specs.Reading.Line.{Line}
+use Rattle.ti_source.specs.Reading.SourceLine.{SourceLine}
 use Rattle.ti_source.specs.Code.Lines.{EndsBlock, lines_of_fields}
 use Rattle.ti_source.specs.Result.{Becomes}
 
@@ -42,7 +42,7 @@ AddsMeant line m old result new =
     Becomes result (unless_faulty (meant_fault before line m) (with_meant before line m old)) new
 
 -- These fields and those of lines that continue the entry are added. What follows these lines does not continue it.
-pub record AddsBlock {Done : Type 0} (fields : List NumberedField) (old : OpenEntry) (lines : List (ℕ × Line)) (result : Result Done SourceFault) (new : OpenEntry) (left : List (ℕ × Line)) : Type 0 where
+pub record AddsBlock {Done : Type 0} (fields : List NumberedField) (old : OpenEntry) (lines : List (ℕ × SourceLine)) (result : Result Done SourceFault) (new : OpenEntry) (left : List (ℕ × SourceLine)) : Type 0 where
   pub taken : List (ℕ × List (List ℕ))
   pub cut : lines ≡ lines_of_fields taken ++ left
   pub adds : Adds (fields ++ continuing (lines_of_fields taken)) old result new

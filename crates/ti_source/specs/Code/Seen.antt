@@ -3,9 +3,9 @@ use Rattle.std.specs.Prelude.{Option, Some, None, min}
 use Rattle.ti_source.specs.declared.reading.field.Form.{Form}
 use Rattle.ti_source.specs.declared.reading.field.Form.TheVariants.{Nothing, Plain, Numeric, Textual, Cancelled, Refers, Odd}
 use Rattle.ti_source.specs.Reading.Field as field
-use Rattle.ti_source.specs.declared.reading.line.Line as line
-use Rattle.ti_source.specs.declared.reading.line.Line.TheVariants.{NonAscii, Continues, Begins}
-use Rattle.ti_source.specs.Reading.Line as spec
+use Rattle.ti_source.specs.declared.reading.line.SourceLine as line
+use Rattle.ti_source.specs.declared.reading.line.SourceLine.TheVariants.{NonAscii, Continues, Begins}
+use Rattle.ti_source.specs.Reading.SourceLine as spec
 use Rattle.ti_source.specs.declared.reading.meaning.WrittenValue.{WrittenValue}
 use Rattle.ti_source.specs.declared.reading.meaning.WrittenValue.TheVariants as written
 use Rattle.ti_source.specs.declared.reading.meaning.Meaning as meaning
@@ -15,13 +15,13 @@ use Rattle.ti_source.specs.declared.reading.statement.FieldValue.TheVariants as 
 use Rattle.ti_source.specs.Reading.Escape.{decoded}
 use Rattle.ti_source.specs.Reading.Sources as source
 
-abbrev pub seen_line : line.Line → spec.Line
+abbrev pub seen_line : line.SourceLine → spec.SourceLine
 seen_line NonAscii = spec.NonAscii
 seen_line (Continues bytes) = spec.Continues (field.fields bytes.now)
 seen_line (Begins names bytes) = spec.Begins names.now (field.fields bytes.now)
 
 -- a line, or one that is skipped
-abbrev pub seen_or_skipped : Option line.Line → spec.Line
+abbrev pub seen_or_skipped : Option line.SourceLine → spec.SourceLine
 seen_or_skipped None = spec.Skipped
 seen_or_skipped (Some line) = seen_line line
 

@@ -18,7 +18,7 @@ use Rattle.ti_source.specs.Resolving.Named.{has_name}
 use Rattle.ti_source.specs.Reading.Escape.{decoded}
 use Rattle.ti_source.specs.Reading.Number.{number}
 use Rattle.ti_source.specs.Reading.Field.{Form, Nothing, Plain, Numeric, Textual, Cancelled, Refers, Odd, form_of}
-use Rattle.ti_source.specs.Reading.Line.{Line, Skipped, NonAscii, Continues, Begins, line_of, lines}
+use Rattle.ti_source.specs.Reading.SourceLine.{SourceLine, Skipped, NonAscii, Continues, Begins, line_of, lines}
 
 -- A source that was read: its entries and notes, in order.
 pub record Whole : Type 0 where
@@ -171,7 +171,7 @@ abbrev pub numbered_fields : ℕ → List (List ℕ) → List NumberedField
 numbered_fields line fields = map (λ field. record { line = line; form = form_of field }) fields
 
 -- The fields of the lines up to the next one that begins an entry.
-abbrev pub continuing : List (ℕ × Line) → List NumberedField
+abbrev pub continuing : List (ℕ × SourceLine) → List NumberedField
 continuing [] = []
 continuing ((n, Skipped) ∷ more) = continuing more
 continuing ((n, NonAscii) ∷ more) = continuing more
@@ -179,7 +179,7 @@ continuing ((n, Continues fields) ∷ more) = numbered_fields n fields ++ contin
 continuing ((n, Begins names fields) ∷ more) = []
 
 -- The entries of these lines: each is a line of names, the fields after them, and those of the lines that continue it.
-abbrev pub written_entries : List (ℕ × Line) → List WrittenEntry
+abbrev pub written_entries : List (ℕ × SourceLine) → List WrittenEntry
 written_entries [] = []
 written_entries ((n, Skipped) ∷ more) = written_entries more
 written_entries ((n, NonAscii) ∷ more) = written_entries more
@@ -207,7 +207,7 @@ begun_faults n names fields ws =
     names_faults n names (map described ws) ++ each_beside field_fault (numbered_fields n fields)
 
 -- The faults of a line, given the lines before it, from left to right.
-unfoldable pub line_faults : List (ℕ × Line) → ℕ × Line → List SourceFault
+unfoldable pub line_faults : List (ℕ × SourceLine) → ℕ × SourceLine → List SourceFault
 line_faults before (n, Skipped) = []
 line_faults before (n, NonAscii) = NotAscii n ∷ []
 line_faults before (n, Continues fields) = continued_faults n fields (written_entries before)
@@ -218,12 +218,12 @@ abbrev pub next_line : ℕ → ℕ
 next_line n = min (n + 1) 4294967295
 
 -- These lines with their numbers, from n on.
-abbrev pub numbered : ℕ → List (List ℕ) → List (ℕ × Line)
+abbrev pub numbered : ℕ → List (List ℕ) → List (ℕ × SourceLine)
 numbered n [] = []
 numbered n (bytes ∷ more) = (n, line_of bytes) ∷ numbered (next_line n) more
 
 -- The lines of a text, counted from 1.
-abbrev pub source_lines : List ℕ → List (ℕ × Line)
+abbrev pub source_lines : List ℕ → List (ℕ × SourceLine)
 source_lines bytes = numbered 1 (lines bytes)
 
 -- The first fault, if there are any.
@@ -232,7 +232,7 @@ unless_faulty [] x = Ok x
 unless_faulty (fault ∷ faults) x = Err fault
 
 -- The entries of these lines and the notes on them, in order.
-abbrev pub whole_of : List (ℕ × Line) → Whole
+abbrev pub whole_of : List (ℕ × SourceLine) → Whole
 whole_of ls = record { entries = map described (written_entries ls); notes = flat_map notes_on (written_entries ls) }
 
 -- The source that a text is, or its first fault.

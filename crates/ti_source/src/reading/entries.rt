@@ -9,7 +9,7 @@ ghost use Rattle.ti_source.specs.Reading.Sources.{is_taken};
 ghost use Rattle.ti_source.specs.Result.{Gives};
 
 use crate::faults::SourceFault;
-use crate::parts::Parts;
+use crate::packed_lists::PackedLists;
 use crate::reading::entry_view::EntryView;
 use crate::reading::keyed_hasher::KeyedHasher;
 use crate::reading::statement::{SourceEntry, Statement};
@@ -27,9 +27,9 @@ type Names = SmallVec<u8, 16>;
 /// entries with little in each, so the names, the statements and the uses of all are three lists.
 #[derive(Drop)]
 pub(crate) struct Entries {
-    names: Parts<u8>,
-    statements: Parts<Statement>,
-    uses: Parts<Bytes>,
+    names: PackedLists<u8>,
+    statements: PackedLists<Statement>,
+    uses: PackedLists<Bytes>,
     indices: IndexMap<Names, u32, KeyedHasher>,
 }
 
@@ -51,9 +51,9 @@ impl Entries {
         ensures { result ≡ [] }
     {
         Entries {
-            names: Parts::new(alloc),
-            statements: Parts::new(alloc),
-            uses: Parts::new(alloc),
+            names: PackedLists::new(alloc),
+            statements: PackedLists::new(alloc),
+            uses: PackedLists::new(alloc),
             indices: IndexMap::with_hasher(alloc, hasher),
         }
     }

@@ -3,14 +3,14 @@
 ghost use Rattle.std.specs.Prelude.{◌≡◌};
 ghost use Rattle.std.specs.List.{after_first, before_first, list_all};
 ghost use Rattle.ti_source.specs.Reading.Field.{is_blank};
-ghost use Rattle.ti_source.specs.Reading.Line.{begins_blank, begins_hash, is_ascii, is_comma, line_of};
+ghost use Rattle.ti_source.specs.Reading.SourceLine.{begins_blank, begins_hash, is_ascii, is_comma, line_of};
 ghost use Rattle.ti_source.specs.Code.Seen.{seen_or_skipped};
 
 use crate::reading::field::is_blank;
 
 /// A line that is not skipped, by its kind; its fields are not split yet.
 #[derive(Clone, Copy)]
-pub enum Line<'a> {
+pub enum SourceLine<'a> {
     /// One with a byte 0, or one from 128 on.
     NonAscii,
     /// Fields that continue an entry.
@@ -20,20 +20,20 @@ pub enum Line<'a> {
 }
 
 /// The kind of a line; `None` for a comment and a blank line, which are skipped.
-pub(crate) fn line_of(bytes: &[u8]) -> Option<Line<'_>>
+pub(crate) fn line_of(bytes: &[u8]) -> Option<SourceLine<'_>>
     ensures { seen_or_skipped result ≡ line_of bytes.now }
 {
     if begins_hash(bytes) || are_blank(bytes) {
         return None;
     }
     if !are_ascii(bytes) {
-        return Some(Line::NonAscii);
+        return Some(SourceLine::NonAscii);
     }
     if begins_blank(bytes) {
-        return Some(Line::Continues(bytes));
+        return Some(SourceLine::Continues(bytes));
     }
     let (names, rest) = split_names(bytes);
-    Some(Line::Begins(names, rest))
+    Some(SourceLine::Begins(names, rest))
 }
 
 pub(crate) fn begins_hash(bytes: &[u8]) -> bool

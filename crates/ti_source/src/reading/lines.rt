@@ -4,7 +4,7 @@ ghost use Rattle.std.specs.Prelude.{◌≡◌, IfNone};
 ghost use Rattle.ti_source.specs.Reading.Sources.{numbered, source_lines};
 ghost use Rattle.ti_source.specs.Code.Lines.{EndsBlock, after_fields, lines_left, unskipped};
 
-use crate::reading::line::{Line, line_of};
+use crate::reading::line::{SourceLine, line_of};
 use bstr::ByteSlice;
 use std::marker::Model;
 
@@ -13,7 +13,7 @@ use std::marker::Model;
 #[derive(Drop)]
 pub struct Lines<'a> {
     /// The first of them and its number, unless none is left.
-    first: Option<(u32, Line<'a>)>,
+    first: Option<(u32, SourceLine<'a>)>,
     /// The number of the first line of `rest`.
     number: u32,
     rest: bstr::Lines<'a>,
@@ -21,11 +21,11 @@ pub struct Lines<'a> {
 
 impl<'a> Model for Lines<'a> {
     ghost use Rattle.std.specs.Prelude.{ℕ, List};
-    ghost use Rattle.ti_source.specs.Reading.Line as spec;
+    ghost use Rattle.ti_source.specs.Reading.SourceLine as spec;
     ghost use Rattle.ti_source.specs.Reading.Sources.{numbered};
     ghost use Rattle.ti_source.specs.Code.Lines.{lines_left, unskipped};
 
-    ghost Value = { List (ℕ × spec.Line) };
+    ghost Value = { List (ℕ × spec.SourceLine) };
 
     ghost view = { λ l. lines_left l.first (unskipped (numbered l.number l.rest)) };
 }
@@ -46,7 +46,7 @@ impl<'a> Lines<'a> {
     }
 
     /// The next line and its number.
-    pub fn next(&mut self) -> Option<(u32, Line<'a>)>
+    pub fn next(&mut self) -> Option<(u32, SourceLine<'a>)>
         ensures { self.old ≡ lines_left result self.new }
     {
         let line = self.first?;
@@ -60,7 +60,7 @@ impl<'a> Lines<'a> {
         ensures end { IfNone result (EndsBlock self.new) }
     {
         match self.first {
-            Some((number, Line::Continues(text))) => {
+            Some((number, SourceLine::Continues(text))) => {
                 self.first = next_unskipped(&mut self.number, &mut self.rest);
                 Some((number, text))
             }
@@ -70,7 +70,7 @@ impl<'a> Lines<'a> {
 }
 
 /// Takes lines until one is not skipped: that line and its number.
-fn next_unskipped<'a>(number: &mut u32, rest: &mut bstr::Lines<'a>) -> Option<(u32, Line<'a>)>
+fn next_unskipped<'a>(number: &mut u32, rest: &mut bstr::Lines<'a>) -> Option<(u32, SourceLine<'a>)>
     ensures { unskipped (numbered number.old rest.old) ≡ lines_left result (unskipped (numbered number.new rest.new)) }
 {
     while let Some(bytes) = rest.next() {

@@ -2,7 +2,7 @@
 
 ghost use Rattle.std.specs.Prelude.{◌≡◌, [], ◌∷◌, ◌++◌, Ok};
 ghost use Rattle.ti_source.specs.Reading.Field.{fields};
-ghost use Rattle.ti_source.specs.Reading.Line.{Begins};
+ghost use Rattle.ti_source.specs.Reading.SourceLine.{Begins};
 ghost use Rattle.ti_source.specs.Reading.Sources.{apart, names_faults, source_of, unless_faulty};
 ghost use Rattle.ti_source.specs.Code.Blocks.{ReadsBlock};
 ghost use Rattle.ti_source.specs.Code.Seen.{seen_line};
@@ -12,7 +12,7 @@ use crate::faults::SourceFault;
 use crate::notes::Notes;
 use crate::reading::entries::Entries;
 use crate::reading::keyed_hasher::KeyedHasher;
-use crate::reading::line::Line;
+use crate::reading::line::SourceLine;
 use crate::reading::lines::Lines;
 use crate::reading::open_entry::OpenEntry;
 use crate::reading::statement::SourceEntry;
@@ -60,15 +60,15 @@ impl ReadSource {
         self,
         alloc: Global,
         number: u32,
-        line: Line<'_>,
+        line: SourceLine<'_>,
         lines: &mut Lines<'_>,
     ) -> Result<ReadSource, SourceFault>
         ensures { ReadsBlock self (number, seen_line line.entry) lines.old result lines.new }
     {
         match line {
-            Line::NonAscii => Err(SourceFault::NotAscii(number)),
-            Line::Continues(_) => Err(SourceFault::FieldBeforeEntry(number)),
-            Line::Begins(names, text) => self.with_named(alloc, number, names, text, lines),
+            SourceLine::NonAscii => Err(SourceFault::NotAscii(number)),
+            SourceLine::Continues(_) => Err(SourceFault::FieldBeforeEntry(number)),
+            SourceLine::Begins(names, text) => self.with_named(alloc, number, names, text, lines),
         }
     }
 

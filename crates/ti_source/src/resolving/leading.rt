@@ -5,7 +5,7 @@ ghost use Rattle.ti_source.specs.declared.reading.statement.Statement.{Statement
 ghost use Rattle.ti_source.specs.Resolving.Named.{index_of};
 ghost use Rattle.ti_source.specs.Code.FirstFields.{IsIndex};
 ghost use Rattle.ti_source.specs.Code.Leading.{AddNothing, AddSoFar, Covers, IsUseAt, Leads, is_stated};
-ghost use Rattle.ti_source.specs.Code.Walk.{AreKnown, Keeps};
+ghost use Rattle.ti_source.specs.Code.EntryWalk.{AreKnown, Keeps};
 
 use crate::ordinals::{ordinal, room};
 use crate::reading::entries::Entries;

@@ -5,7 +5,7 @@ ghost use Rattle.std.specs.Prelude.{◌≡◌, ◌≤◌, ◌<◌, ℕ, List, le
 ghost use Rattle.ti_source.specs.declared.reading.statement.Statement.{Statement};
 ghost use Rattle.ti_source.specs.Resolving.Named.{index_of};
 ghost use Rattle.ti_source.specs.Code.Leading.{Leads};
-ghost use Rattle.ti_source.specs.Code.Walk.{Adds, AddsEffective, AddsGathered, AreBelow, AreKnown, IsBelow, IsLight, Keeps, IsLedOver, Lists, TakeEffect, known, steps_at};
+ghost use Rattle.ti_source.specs.Code.EntryWalk.{Adds, AddsEffective, AddsGathered, AreBelow, AreKnown, IsBelow, IsLight, Keeps, IsLedOver, Lists, TakeEffect, known, steps_at};
 
 use crate::reading::entries::Entries;
 use crate::reading::entry_view::EntryView;

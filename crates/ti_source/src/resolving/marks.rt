@@ -1,7 +1,7 @@
 //! Marks: how far a walk has come with each entry.
 
 ghost use Rattle.std.specs.Prelude.{◌≡◌, IfOk, replicate, slice_get, slice_set};
-ghost use Rattle.ti_source.specs.Code.Walk.{IsTakenBack};
+ghost use Rattle.ti_source.specs.Code.EntryWalk.{IsTakenBack};
 
 use crate::faults::SourceFault;
 use std::alloc::{AllocError, Global};

@@ -7,7 +7,7 @@ ghost use Rattle.ti_caps.specs.declared.faults.CapFault.TheVariants as cap;
 ghost use Rattle.ti_source.specs.Described.{IsGood};
 ghost use Rattle.ti_source.specs.Resolving.Uses.{flag_by, merged, number_by, text_by};
 ghost use Rattle.ti_source.specs.Code.Laid.{IsLaid};
-ghost use Rattle.ti_source.specs.Code.Walk.{of_fields};
+ghost use Rattle.ti_source.specs.Code.EntryWalk.{of_fields};
 
 use crate::faults::SourceFault;
 use crate::ordinals::room;

@@ -7,14 +7,14 @@ ghost use Rattle.ti_source.specs.Resolving.Uses.{FaultOnce, ResolveOnce, Resolve
 ghost use Rattle.ti_source.specs.Resolving.Named.{has_name};
 ghost use Rattle.ti_source.specs.Resolving.Passing.{PassBack, PassOn};
 ghost use Rattle.ti_source.specs.Result.{Stops};
-ghost use Rattle.ti_source.specs.Code.Walk.{FaultAt, ResolvedAt};
+ghost use Rattle.ti_source.specs.Code.EntryWalk.{FaultAt, ResolvedAt};
 
 use crate::faults::SourceFault;
 use crate::reading::entries::Entries;
 use crate::reading::entry_view::EntryView;
 use crate::resolving::fields::Fields;
 use crate::resolving::merge::merge;
-use crate::resolving::walk::Walk;
+use crate::resolving::walk::EntryWalk;
 use crate::source::Source;
 use std::alloc::Global;
 use std::marker::Model;
@@ -29,13 +29,13 @@ use ti_caps::Entry;
 pub struct Resolver<'a> {
     entries: &'a Entries,
     /// `None` until an entry with uses is followed.
-    walk: Option<Walk<'a>>,
+    walk: Option<EntryWalk<'a>>,
 }
 
 impl<'a> Model for Resolver<'a> {
     ghost use Rattle.std.specs.Prelude.{List, IfSome};
     ghost use Rattle.ti_source.specs.Described.{Described};
-    ghost use Rattle.ti_source.specs.Code.Walk.{IsReady};
+    ghost use Rattle.ti_source.specs.Code.EntryWalk.{IsReady};
 
     ghost Value = { List Described };
 
@@ -82,7 +82,7 @@ impl<'a> Resolver<'a> {
         }
         let mut walk = match self.walk.take() {
             Some(walk) => walk,
-            None => Walk::new(alloc, entries)?,
+            None => EntryWalk::new(alloc, entries)?,
         };
         let entry = walk.resolved(alloc, entries, index);
         self.walk = Some(walk);

@@ -1,7 +1,7 @@
 //! The walk through the uses of entries, which enters each entry at most once.
 
 ghost use Rattle.std.specs.Prelude.{◌≡◌, ◌<◌, ◌∷◌, [], ◌++◌, length, Some, None, true, IfOk, IfErr, IfSome, OnErr, OnOk, map, reverse, slice_get};
-ghost use Rattle.ti_source.specs.Code.Walk.{AreKnown, FaultAt, Gathers, IsReady, IsStopped, IsWalk, Keeps, ResolvedAt, Stepped, StuckAt, known, leaves, visits, with_fault};
+ghost use Rattle.ti_source.specs.Code.EntryWalk.{AreKnown, FaultAt, Gathers, IsReady, IsStopped, IsWalk, Keeps, ResolvedAt, Stepped, StuckAt, known, leaves, visits, with_fault};
 ghost use Rattle.ti_source.specs.Resolving.Named.{index_of};
 ghost use Rattle.ti_source.specs.Result.{Stops};
 
@@ -19,7 +19,7 @@ use ti_caps::{Bytes, Entry};
 
 /// A task of the walk.
 #[derive(Clone, Copy)]
-pub(crate) enum Task {
+pub(crate) enum EntryTask {
     /// Visit the entry at an index; `None` if no entry has the name.
     Visit(Option<usize>),
     /// Leave an entry whose uses are done.
@@ -29,20 +29,20 @@ pub(crate) enum Task {
 /// How far each entry is, the lists of fields that are kept, and the tasks that are left, the next
 /// one last.
 #[derive(Drop)]
-pub(crate) struct Walk<'a> {
+pub(crate) struct EntryWalk<'a> {
     marks: Vec<Mark>,
     kept: Vec<Fields<'a>>,
     /// How many fields are kept.
     count: usize,
-    tasks: Vec<Task>,
+    tasks: Vec<EntryTask>,
 }
 
-impl<'a> Walk<'a> {
-    pub(crate) fn new(alloc: Global, entries: &Entries) -> Result<Walk<'a>, SourceFault>
+impl<'a> EntryWalk<'a> {
+    pub(crate) fn new(alloc: Global, entries: &Entries) -> Result<EntryWalk<'a>, SourceFault>
         ensures ready { IfOk result (λ w. IsReady entries.now w) }
         ensures err { IfErr result (λ f. f ≡ SourceFault.NoMemory) }
     {
-        Ok(Walk {
+        Ok(EntryWalk {
             marks: new_marks(alloc, entries.len())?,
             kept: Vec::new(alloc),
             count: 0,
@@ -63,7 +63,7 @@ impl<'a> Walk<'a> {
         ensures ok { IfOk result (λ e. ResolvedAt entries.now index e) }
         ensures err { IfErr result (λ f. Stops f (FaultAt entries.now [] index f)) }
     {
-        self.tasks.push(Task::Visit(index))?;
+        self.tasks.push(EntryTask::Visit(index))?;
         while let Some(task) = self.tasks.pop() {
             if let Some(i) = self.last_left(index, task) {
                 return self.finished(alloc, entries, i);
@@ -77,12 +77,12 @@ impl<'a> Walk<'a> {
     }
 
     /// The index, if leaving the entry there is all that is left to do.
-    fn last_left(&self, index: Option<usize>, task: Task) -> Option<usize>
-        ensures { IfSome result (λ i. (task ≡ Task.Leave i) × (index ≡ Some i) × (self.now.tasks.items ≡ [])) }
+    fn last_left(&self, index: Option<usize>, task: EntryTask) -> Option<usize>
+        ensures { IfSome result (λ i. (task ≡ EntryTask.Leave i) × (index ≡ Some i) × (self.now.tasks.items ≡ [])) }
     {
         let wanted = index?;
         match task {
-            Task::Leave(i) if i == wanted && self.tasks.is_empty() => Some(i),
+            EntryTask::Leave(i) if i == wanted && self.tasks.is_empty() => Some(i),
             _ => None,
         }
     }
@@ -95,7 +95,7 @@ impl<'a> Walk<'a> {
         entries: &'a Entries,
         i: usize,
     ) -> Result<Entry, SourceFault>
-        requires walk { IsWalk entries.now self.old.marks.items self.old.kept.items (Task.Leave i ∷ []) }
+        requires walk { IsWalk entries.now self.old.marks.items self.old.kept.items (EntryTask.Leave i ∷ []) }
         requires last { self.old.tasks.items ≡ [] }
         ensures ready { IsReady entries.now self.new }
         ensures ok { IfOk result (λ e. ResolvedAt entries.now (Some i) e) }
@@ -125,23 +125,23 @@ impl<'a> Walk<'a> {
 
     /// Enters an entry: its uses are visited next, then it is left.
     fn enter(&mut self, entries: &'a Entries, i: usize) -> Result<(), SourceFault>
-        requires walk { IsWalk entries.now self.old.marks.items self.old.kept.items (Task.Visit (Some i) ∷ reverse self.old.tasks.items) }
+        requires walk { IsWalk entries.now self.old.marks.items self.old.kept.items (EntryTask.Visit (Some i) ∷ reverse self.old.tasks.items) }
         requires new { slice_get self.old.marks.items i ≡ Some Mark.New }
-        ensures ok { OnOk result (Stepped entries.now self.old.marks.items (Task.Visit (Some i) ∷ reverse self.old.tasks.items) self.new.marks.items self.new.kept.items (reverse self.new.tasks.items)) }
+        ensures ok { OnOk result (Stepped entries.now self.old.marks.items (EntryTask.Visit (Some i) ∷ reverse self.old.tasks.items) self.new.marks.items self.new.kept.items (reverse self.new.tasks.items)) }
         ensures err { IfErr result (λ f. f ≡ SourceFault.NoMemory) }
         ensures kept { OnErr result ((self.new.marks.items ≡ self.old.marks.items) × (self.new.kept.items ≡ self.old.kept.items)) }
     {
         let entry = entries.at(i);
-        self.tasks.push(Task::Leave(i))?;
+        self.tasks.push(EntryTask::Leave(i))?;
         put_visits(&mut self.tasks, entries, entry.uses())?;
         self.marks[i] = Mark::Open;
         Ok(())
     }
 
     fn visit(&mut self, entries: &'a Entries, i: usize) -> Result<(), SourceFault>
-        requires { IsWalk entries.now self.old.marks.items self.old.kept.items (Task.Visit (Some i) ∷ reverse self.old.tasks.items) }
-        ensures ok { OnOk result (Stepped entries.now self.old.marks.items (Task.Visit (Some i) ∷ reverse self.old.tasks.items) self.new.marks.items self.new.kept.items (reverse self.new.tasks.items)) }
-        ensures err { IfErr result (λ f. Stops f (StuckAt entries.now self.old (Task.Visit (Some i)) f self.new)) }
+        requires { IsWalk entries.now self.old.marks.items self.old.kept.items (EntryTask.Visit (Some i) ∷ reverse self.old.tasks.items) }
+        ensures ok { OnOk result (Stepped entries.now self.old.marks.items (EntryTask.Visit (Some i) ∷ reverse self.old.tasks.items) self.new.marks.items self.new.kept.items (reverse self.new.tasks.items)) }
+        ensures err { IfErr result (λ f. Stops f (StuckAt entries.now self.old (EntryTask.Visit (Some i)) f self.new)) }
         ensures kept { OnErr result ((self.new.marks.items ≡ self.old.marks.items) × (self.new.kept.items ≡ self.old.kept.items)) }
     {
         match mark_at(&self.marks, i) {
@@ -158,8 +158,8 @@ impl<'a> Walk<'a> {
     /// Leaves an entry whose uses are done.
     fn leave(&mut self, alloc: Global, entries: &'a Entries, i: usize) -> Result<(), SourceFault>
         requires there { i < length entries.now }
-        requires walk { IsWalk entries.now self.old.marks.items self.old.kept.items (Task.Leave i ∷ reverse self.old.tasks.items) }
-        ensures ok { OnOk result (Stepped entries.now self.old.marks.items (Task.Leave i ∷ reverse self.old.tasks.items) self.new.marks.items self.new.kept.items (reverse self.new.tasks.items)) }
+        requires walk { IsWalk entries.now self.old.marks.items self.old.kept.items (EntryTask.Leave i ∷ reverse self.old.tasks.items) }
+        ensures ok { OnOk result (Stepped entries.now self.old.marks.items (EntryTask.Leave i ∷ reverse self.old.tasks.items) self.new.marks.items self.new.kept.items (reverse self.new.tasks.items)) }
         ensures err { IfErr result (λ f. f ≡ SourceFault.NoMemory) }
         ensures kept { OnErr result ((self.new.marks.items ≡ self.old.marks.items) × (self.new.kept.items ≡ self.old.kept.items)) }
     {
@@ -180,18 +180,23 @@ impl<'a> Walk<'a> {
         Ok(())
     }
 
-    fn step(&mut self, alloc: Global, entries: &'a Entries, task: Task) -> Result<(), SourceFault>
+    fn step(
+        &mut self,
+        alloc: Global,
+        entries: &'a Entries,
+        task: EntryTask,
+    ) -> Result<(), SourceFault>
         requires { IsWalk entries.now self.old.marks.items self.old.kept.items (task ∷ reverse self.old.tasks.items) }
         ensures ok { OnOk result (Stepped entries.now self.old.marks.items (task ∷ reverse self.old.tasks.items) self.new.marks.items self.new.kept.items (reverse self.new.tasks.items)) }
         ensures err { IfErr result (λ f. Stops f (StuckAt entries.now self.old task f self.new)) }
         ensures kept { OnErr result ((self.new.marks.items ≡ self.old.marks.items) × (self.new.kept.items ≡ self.old.kept.items)) }
     {
         match task {
-            Task::Visit(index) => match index {
+            EntryTask::Visit(index) => match index {
                 Some(i) => self.visit(entries, i),
                 None => Err(SourceFault::UnknownName),
             },
-            Task::Leave(i) => self.leave(alloc, entries, i),
+            EntryTask::Leave(i) => self.leave(alloc, entries, i),
         }
     }
 
@@ -217,7 +222,11 @@ fn are_many(count: usize, entries: usize) -> bool {
 }
 
 /// Adds a visit of each of these names, the first to be done next.
-fn put_visits(tasks: &mut Vec<Task>, entries: &Entries, uses: &[Bytes]) -> Result<(), AllocError>
+fn put_visits(
+    tasks: &mut Vec<EntryTask>,
+    entries: &Entries,
+    uses: &[Bytes],
+) -> Result<(), AllocError>
     ensures { OnOk result (reverse tasks.new.items ≡ visits entries.now uses.now ++ reverse tasks.old.items) }
 {
     let mut left = uses.len();
@@ -225,7 +234,7 @@ fn put_visits(tasks: &mut Vec<Task>, entries: &Entries, uses: &[Bytes]) -> Resul
         left -= 1;
         let other = &uses[left];
         let index = entries.index_of(other.0.as_slice());
-        tasks.push(Task::Visit(index))?;
+        tasks.push(EntryTask::Visit(index))?;
     }
     Ok(())
 }
@@ -238,7 +247,7 @@ fn made<'a>(
     kept: &[Fields<'a>],
     i: usize,
 ) -> Result<Entry, SourceFault>
-    requires walk { IsWalk entries.now marks.now kept.now (Task.Leave i ∷ []) }
+    requires walk { IsWalk entries.now marks.now kept.now (EntryTask.Leave i ∷ []) }
     ensures ok { IfOk result (λ e. ResolvedAt entries.now (Some i) e) }
     ensures err { IfErr result (λ f. f ≡ SourceFault.NoMemory) }
 {
@@ -265,12 +274,12 @@ fn gathered<'a>(
 }
 
 /// Marks the entries that are still to be left as followed to an error, and drops all tasks.
-fn put_fault(marks: &mut [Mark], tasks: &mut Vec<Task>, fault: SourceFault)
+fn put_fault(marks: &mut [Mark], tasks: &mut Vec<EntryTask>, fault: SourceFault)
     ensures marks { marks.new ≡ with_fault fault (leaves (reverse tasks.old.items)) marks.old }
     ensures tasks { tasks.new.items ≡ [] }
 {
     while let Some(task) = tasks.pop() {
-        if let Task::Leave(i) = task {
+        if let EntryTask::Leave(i) = task {
             put_mark(marks, i, Mark::Faulty(fault));
         }
     }

@@ -4,7 +4,7 @@ use Rattle.std.proofs.lemmas.Option.{slice_get-get_or}
 use Rattle.ti_source.specs.declared.resolving.marks.Mark.TheVariants.{Done, Kept, Over}
 use Rattle.ti_source.specs.Described.{Described}
 use Rattle.ti_source.specs.Resolving.Named.{index_of}
-use Rattle.ti_source.specs.Code.Walk.{AreKnown, known, steps_at, steps_of, steps_of_all, steps_or_0}
+use Rattle.ti_source.specs.Code.EntryWalk.{AreKnown, known, steps_at, steps_of, steps_of_all, steps_or_0}
 use Rattle.ti_source.proofs.AloneLaws.{ok-more}
 use Rattle.ti_source.proofs.GatherLaws.{gathering-end, gathering-go, gathering-known}
 use Rattle.ti_source.proofs.IndexLaws.{get-lt}

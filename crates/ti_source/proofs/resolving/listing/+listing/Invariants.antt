@@ -1,7 +1,7 @@
 use Rattle.std.proofs.Common.{◌≡◌, ◌+◌, ◌*◌, ◌++◌, List, Some, map, drop}
 use Rattle.ti_source.specs.declared.reading.statement.Statement.{Statement}
 use Rattle.ti_source.specs.Resolving.Named.{index_of}
-use Rattle.ti_source.specs.Code.Walk.{steps_at, steps_of_all, steps_or_0}
+use Rattle.ti_source.specs.Code.EntryWalk.{steps_at, steps_of_all, steps_or_0}
 use Rattle.ti_source.proofs.GatherLaws.{IsGathering}
 use Rattle.ti_source.proofs.resolving.listing.+listing.Given as goal
 

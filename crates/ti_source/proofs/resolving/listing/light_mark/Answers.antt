@@ -1,7 +1,7 @@
 use Rattle.std.proofs.Common.{map, subst, rules}
 use Rattle.ti_source.specs.Resolving.Named.{index_of}
 use Rattle.ti_source.specs.Code.Leading.{Leads}
-use Rattle.ti_source.specs.Code.Walk.{AreBelow}
+use Rattle.ti_source.specs.Code.EntryWalk.{AreBelow}
 use Rattle.ti_source.proofs.ListingLaws.{done-light, over-light, some-more}
 use Rattle.ti_source.proofs.resolving.listing.light_mark.Goals as goal
 

@@ -1,6 +1,6 @@
 use Rattle.std.proofs.Common.{map, take}
 use Rattle.ti_source.specs.Resolving.Named.{index_of}
-use Rattle.ti_source.specs.Code.Walk.{AreBelow}
+use Rattle.ti_source.specs.Code.EntryWalk.{AreBelow}
 use Rattle.ti_source.proofs.resolving.listing.several.Given as goal
 
 -- the uses so far take fewer steps

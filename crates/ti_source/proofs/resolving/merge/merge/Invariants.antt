@@ -1,6 +1,6 @@
 use Rattle.std.proofs.Common.{◌≡◌, ◌≤◌, [], drop, length}
 use Rattle.ti_source.specs.Resolving.Uses.{merged}
-use Rattle.ti_source.specs.Code.Walk.{of_fields}
+use Rattle.ti_source.specs.Code.EntryWalk.{of_fields}
 use Rattle.ti_source.proofs.resolving.merge.merge.Given as goal
 
 -- the entry is that of the fields after these

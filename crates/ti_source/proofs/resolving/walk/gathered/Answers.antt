@@ -1,5 +1,5 @@
 use Rattle.std.proofs.Common.{◌++◌, ◌∙◌, ap, subst, sym}
-use Rattle.ti_source.specs.Code.Walk.{Gathers}
+use Rattle.ti_source.specs.Code.EntryWalk.{Gathers}
 use Rattle.ti_source.proofs.resolving.walk.gathered.Goals as goal
 
 pub returns : goal.returns

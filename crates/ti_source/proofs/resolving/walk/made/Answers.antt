@@ -1,7 +1,7 @@
 use Rattle.std.proofs.Common.{◌≡◌, [], map, slice_get, Some, subst}
 use Rattle.ti_source.specs.Described.{Described}
 use Rattle.ti_source.specs.Resolving.Named.{index_of}
-use Rattle.ti_source.specs.Code.Walk.{AreKnown}
+use Rattle.ti_source.specs.Code.EntryWalk.{AreKnown}
 use Rattle.ti_source.proofs.AloneLaws.{ok-more}
 use Rattle.ti_source.proofs.GatherLaws.{effective-entry, take-effect}
 use Rattle.ti_source.proofs.IndexLaws.{get-lt}

@@ -1,6 +1,6 @@
 use Rattle.std.proofs.Common.{◌≡◌, ◌∙◌, ◌∷◌, [], ◌++◌, ap, rules, sym, reverse}
-use Rattle.ti_source.specs.declared.resolving.walk.Task.TheVariants.{Visit, Leave}
-use Rattle.ti_source.specs.Code.Walk.{leaves, with_fault}
+use Rattle.ti_source.specs.declared.resolving.walk.EntryTask.TheVariants.{Visit, Leave}
+use Rattle.ti_source.specs.Code.EntryWalk.{leaves, with_fault}
 use Rattle.ti_source.proofs.ChainLaws.{faults-leave, faults-visit}
 use Rattle.ti_source.proofs.resolving.walk.put_fault.Goals as goal
 

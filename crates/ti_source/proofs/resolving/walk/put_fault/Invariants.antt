@@ -1,5 +1,5 @@
 use Rattle.std.proofs.Common.{◌≡◌, length, reverse}
-use Rattle.ti_source.specs.Code.Walk.{leaves, with_fault}
+use Rattle.ti_source.specs.Code.EntryWalk.{leaves, with_fault}
 use Rattle.ti_source.proofs.resolving.walk.put_fault.Given as goal
 
 -- the entries that are left give the answer

@@ -1,5 +1,5 @@
 use Rattle.std.proofs.Common.{◌≡◌, ◌≤◌, ◌++◌, drop, length, reverse}
-use Rattle.ti_source.specs.Code.Walk.{visits}
+use Rattle.ti_source.specs.Code.EntryWalk.{visits}
 use Rattle.ti_source.proofs.resolving.walk.put_visits.Given as goal
 
 -- the visits of the names from `left` on are put

@@ -1,7 +1,7 @@
 use Rattle.std.proofs.Common.{◌≡◌, ◌∙◌, ◌∷◌, Err, ap}
 use Rattle.std.proofs.lemmas.Result.{err_from_is_err_and}
 use Rattle.ti_source.specs.Reading.Field.{fields}
-use Rattle.ti_source.specs.Reading.Line.{Continues}
+use Rattle.ti_source.specs.Reading.SourceLine.{Continues}
 use Rattle.ti_source.specs.Reading.Sources.{numbered_fields}
 use Rattle.ti_source.proofs.BlockLaws.{block-fails, block-goes, block-starts}
 use Rattle.ti_source.proofs.reading.open_entry.OpenEntry.add_block.Goals as goal

@@ -1,6 +1,6 @@
 use Rattle.std.proofs.Common.{◌≡◌, ap}
 use Rattle.ti_source.specs.Reading.Field.{fields}
-use Rattle.ti_source.specs.Reading.Line.{Continues}
+use Rattle.ti_source.specs.Reading.SourceLine.{Continues}
 use Rattle.ti_source.specs.Code.Seen.{seen_line}
 use Rattle.ti_source.proofs.BlockLaws.{before-entry, not-ascii}
 use Rattle.ti_source.proofs.reading.reader.ReadSource.with_block.Goals as goal

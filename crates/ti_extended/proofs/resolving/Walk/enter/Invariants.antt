@@ -1,4 +1,0 @@
-use Rattle.ti_extended.proofs.resolving.Walk.enter.Given as goal
-
-abbrev pub decreases-loop-left : goal.decreases-loop-left
-decreases-loop-left l = l.left
