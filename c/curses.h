@@ -2,7 +2,7 @@
  *
  * Each call does what the standard says unless docs/C.md says otherwise, and gives ERR, NULL or (chtype)ERR where it is
  * refused. Windows hold characters of one column. A screen shows and reads them in UTF-8 if the locale has it when the
- * screen is opened: a program calls setlocale(LC_ALL, "") before. Otherwise what stands for them in ASCII is shown, and
+ * screen is opened: a program calls setlocale(LC_ALL, "") before. Otherwise their ASCII stand-ins are shown, and
  * a byte from 128 on is refused. Calls come from one thread. Only a call that waits for a key may be interrupted by a
  * signal handler that makes calls of its own.
  *

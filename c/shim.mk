@@ -4,7 +4,7 @@
 #   check-headers            compiles each header by itself, as C99 and as C++, with every warning an error
 #   install-curses           copies archive, headers, manuals and files for pkg-config below PREFIX (and DESTDIR)
 #   uninstall-curses         removes them
-# A program that wants <curses.h> of here is compiled with -I PREFIX/include/huttavel, and linked with
+# A program that wants this <curses.h> is compiled with -I PREFIX/include/huttavel, and linked with
 # -lhuttavel_curses -lhuttavel: pkg-config --cflags --libs huttavel_curses. One that asks for -lncurses, -lpanel and so
 # on is linked with -L PREFIX/lib/huttavel, where these names stand for both archives.
 

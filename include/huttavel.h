@@ -198,7 +198,7 @@ uint32_t huttavel_open(huttavel *handle, const uint8_t *entry, size_t length, ui
 /* The same on the bundled entry, a terminal of ECMA-48 with eight colours, whose own size is 24 rows of 80 columns. */
 uint32_t huttavel_open_bundled(huttavel *handle, uint32_t rows, uint32_t columns);
 
-/* Opens a screen as is asked for; as huttavel_open with 0 rows and 0 columns, if `opening` is NULL. Refused, after
+/* Opens a screen with these options; as huttavel_open with 0 rows and 0 columns, if `opening` is NULL. Refused, after
  * HUTTAVEL_IS_OPEN: HUTTAVEL_BAD_CHARSET; the rest as huttavel_open. */
 uint32_t huttavel_open_as(huttavel *handle, const uint8_t *entry, size_t length, const huttavel_opening *opening,
                           huttavel_capability *which);

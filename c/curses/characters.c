@@ -18,7 +18,7 @@ const cchar_t huttavel_curses_wacs[128] = {
     LINE('|', 0x2260), LINE('}', 0x00a3),
 };
 
-/* What stands for them in ASCII (X/Open Curses Issue 7, 'Line Graphics'). A program may put others into it. */
+/* Their ASCII stand-ins (X/Open Curses Issue 7, 'Line Graphics'). A program may put others into it. */
 chtype acs_map[128] = {
     ['l'] = '+', ['m'] = '+', ['k'] = '+', ['j'] = '+',  ['u'] = '+', ['t'] = '+', ['v'] = '+', ['w'] = '+',
     ['q'] = '-', ['x'] = '|', ['n'] = '+', ['o'] = '-',  ['p'] = '-', ['r'] = '-', ['s'] = '_', ['`'] = '+',
@@ -138,7 +138,7 @@ static uint8_t letter_of(uint32_t code)
 }
 
 /* The byte of a chtype, and A_ALTCHARSET with it, that shows a cell's character beyond ASCII when it is written again:
-   on a screen in UTF-8 its letter if it is of line drawing, or its code below 256; otherwise what stands for it. */
+   on a screen in UTF-8 its letter if it is of line drawing, or its code below 256; otherwise its ASCII stand-in. */
 static SELDOM chtype text_of(const SCREEN *screen, uint32_t code, uint8_t stand_in)
 {
     uint8_t letter;

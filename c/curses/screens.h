@@ -160,7 +160,7 @@ struct huttavel_curses_window {
     bool is_over;              /* it reaches over the edge of the screen: a pad of the handle, at this place of stdscr */
     int row, column;
     bool has_part;             /* of a pad: a part of it was copied to the virtual screen */
-    int part[6];               /* what pnoutrefresh() was told last */
+    int part[6];               /* the last arguments of pnoutrefresh() */
     bool is_keypad;
     bool is_untimed;           /* notimeout() */
     int delay;                 /* how long getch() waits: milliseconds, or -1 */

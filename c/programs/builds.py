@@ -1,4 +1,4 @@
-"""Fetches the sources of programs and builds each over curses.h of here and over ncurses. Part of `try`."""
+"""Fetches the sources of programs and builds each with the curses.h in c/ and with ncurses. Part of `try`."""
 import glob
 import os
 import re

@@ -291,7 +291,7 @@ int main(void)
     keypad(stdscr, TRUE);
     start_color();
 #ifdef NCURSES_VERSION
-    /* Pair 0 is the terminal's own colours, as it is over curses.h of here. */
+    /* Pair 0 is the terminal's own colours, as with the curses.h in c/. */
     use_default_colors();
 #endif
     for (pair = 1; pair < 8; pair++)

@@ -1,5 +1,5 @@
 /* Random calls on characters of one column, in a locale of UTF-8: prints after each call its answer, the cursor and all
-   cells of the window. For `try-cells`, which compares what is printed over curses.h of here and over ncurses.
+   cells of the window. For `try-cells`, which compares what it prints with the curses.h in c/ and with ncurses.
 
    Usage: cells SEED CALLS. An odd seed is that of a window that scrolls. */
 #define _XOPEN_SOURCE 700

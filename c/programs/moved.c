@@ -265,7 +265,7 @@ static void begin(void)
     if (has_pairs) {
         start_color();
 #ifdef NCURSES_VERSION
-        /* Pair 0 is the terminal's own colours, as it is over curses.h of here. */
+        /* Pair 0 is the terminal's own colours, as with the curses.h in c/. */
         use_default_colors();
 #endif
         for (color = 1; color < 8; color++)

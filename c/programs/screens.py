@@ -1,4 +1,4 @@
-"""What a terminal of tmux shows: characters with what is seen of their renditions. Part of `compare` and `try`."""
+"""What a terminal of tmux shows: characters, with what their renditions show. Part of `compare` and `try`."""
 import os
 import re
 import subprocess
@@ -18,7 +18,7 @@ PARTS.update({str(40 + n): "back" for n in range(8)})
 
 
 def seen(character, pen):
-    """What is seen of a pen on a character."""
+    """What a pen shows on a character."""
     shown = pen
     if character == " ":
         parts = (4, 7, "back", "front") if 7 in pen else (4, "back", "front") if 4 in pen else ("back",)

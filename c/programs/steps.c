@@ -1,5 +1,5 @@
 /* What replaces the clock, the process number and the pauses of a program that is compared step by step: both builds
-   of it draw the same then, and go on when they are told to. `try-steps` says by which -D they are put in place. */
+   of it draw the same then, and go on at a signal. `try-steps` says by which -D they are put in place. */
 #define _POSIX_C_SOURCE 200809L
 
 #include <fcntl.h>

@@ -1,6 +1,6 @@
 /* The calls of huttavel.h on characters beyond ASCII: each of them, with results worked out by hand; random texts in
  * UTF-8 that are broken here and there, which no column and no byte is lost of; and updates of such texts, which a
- * terminal in UTF-8 shows, and one in ASCII by what stands for them.
+ * terminal in UTF-8 shows, and one in ASCII by their stand-ins.
  */
 #include "terminal.h"
 

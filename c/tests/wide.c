@@ -470,7 +470,7 @@ static void keeping(void)
     fclose(file);
 }
 
-/* On a screen in ASCII wide characters are shown by what stands for them, and bytes are ASCII. */
+/* On a screen in ASCII wide characters are shown by their stand-ins, and bytes are ASCII. */
 static void in_ascii(void)
 {
     static const chtype accent[] = {0xe9, 0};

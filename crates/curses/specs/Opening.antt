@@ -31,7 +31,7 @@ default_opening = record { charset = Ascii; keys = Table; is_larger = false }
 abbrev pub served : Opening → Description → Description
 served asked entry = if asked.is_larger then without_moves entry else entry
 
--- A screen just opened on the terminal of an entry, as is asked for: one blank window over the whole screen, a blank
+-- A screen just opened with these options on the terminal of an entry: one blank window over the whole screen, a blank
 -- virtual screen, nothing known of the terminal, nothing owed, the entry's keys with none pressed, and the opening and
 -- closing text, each empty if it is refused.
 pub record IsOpenedAs (asked : Opening) (entry : Description) (size : Option Size) (screen : ScreenState) : Type 0 where

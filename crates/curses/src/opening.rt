@@ -81,11 +81,11 @@ impl Screen {
         Screen::open_as(alloc, entry, size, Opening::new())
     }
 
-    /// Opens a screen as is asked for; `open` is it with what `Opening::new` gives. The rest, refusals included, is as
+    /// Opens a screen with these options; `open` is it with those of `Opening::new`. The rest, refusals included, is as
     /// with `open`.
     ///
     /// With `Charset::Utf8` characters are sent in UTF-8, and the terminal has to show each of them in one column: some
-    /// terminals can be set to show characters of ambiguous width in two. With `Charset::Ascii` what stands for them is
+    /// terminals can be set to show characters of ambiguous width in two. With `Charset::Ascii` their stand-ins are
     /// sent. With `KeySet::All` more of the entry's texts are keys: those with shift, and `kmous`.
     pub fn open_as(
         alloc: Global,

@@ -238,7 +238,7 @@ fn put_whole<W: Counted>(text: &[u8], out: &mut W) -> Taken
     Taken { bytes, fault: None }
 }
 
-// What is told of a put that failed after this many bytes were accepted.
+// The result of a put that failed after this many bytes were accepted.
 fn failed_at(bytes: usize, kind: ErrorKind) -> Taken
     ensures bytes { result.bytes ≡ bytes }
     ensures fault { is_some result.fault ≡ true }

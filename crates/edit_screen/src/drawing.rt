@@ -145,7 +145,7 @@ fn draw_part(screen: &mut Screen, part: TextPart, room: &mut Room) {
     }
 }
 
-// Draws a character above ASCII, if it is not left out. A terminal that has ASCII alone shows what stands for it.
+// Draws a character above ASCII, if it is not left out. A terminal that has ASCII alone shows its stand-in.
 fn draw_character(screen: &mut Screen, character: char, room: &mut Room) {
     room.column = room.column.saturating_add(1);
     if room.skipped > 0 {

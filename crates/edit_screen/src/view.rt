@@ -1,4 +1,4 @@
-//! What is seen of a line: how each part of it is shown, and the columns that it needs.
+//! What the screen shows of a line: how each part of it is shown, and the columns that it needs.
 
 use edit_text::{TextPart, first_part};
 

@@ -2,7 +2,7 @@
 //!
 //! A text is one line or more, a line is bytes without a line feed, and the bytes of a file are its lines joined by
 //! line feeds. So a file that ends in a line feed has an empty last line, and every byte of every file is kept. What is
-//! edited is a part of a line: a character of one column with all its bytes in UTF-8, or a byte of what is none.
+//! edited is a part of a line: a character of one column with all its bytes in UTF-8, or a byte that belongs to none.
 #![tactic(auto)]
 
 mod edits;

@@ -1,7 +1,7 @@
 //! Screens with the terminals that they are shown on, each update compared with a plain picture of what was copied, and
 //! sessions that are made up, with updates that fail or are cut after each number of their bytes.
 //!
-//! What an update sends goes into a writer that fails where it is told to. An emulated terminal executes its
+//! What an update sends goes into a writer that fails after given counts of bytes. An emulated terminal executes its
 //! operations, and one that reads ECMA-48 is fed what the writer accepted, where the entry cannot insert and delete
 //! lines and characters.
 #![tactic(auto)]

@@ -10,7 +10,7 @@ use scr_windows::{Win, WindowRef};
 use screen_sessions::Call;
 use std::alloc::Global;
 
-// What a place has: a character, what stands for it in ASCII, attributes and a colour pair.
+// What a place has: a character, its ASCII stand-in, attributes and a colour pair.
 type PlainPlace = (char, u8, u8, u32);
 
 /// The picture.

@@ -15,7 +15,7 @@ abbrev pub cells_from : Result (List CellView) WinFault → ℕ → Result (List
 cells_from (Err fault) column = Err fault
 cells_from (Ok row) column = if ltb column (length row) then Ok (drop column row) else Err OutOfWindow
 
--- They are copied, as many as there is room for, and their number is told; or nothing is copied.
+-- They are copied, as many as there is room for, and their number is the answer; or nothing is copied.
 abbrev pub IsGiven : Result (List CellView) WinFault → List GivenCell → List GivenCell → Length → Type 0
 IsGiven (Err fault) before after answer = (after ≡ before) × (answer ≡ no_length (window_number fault))
 IsGiven (Ok cells) before after answer =

@@ -34,7 +34,7 @@ abbrev pub capability_reply : Option (Kind × ℕ) → Reply
 capability_reply None = refused 58
 capability_reply (Some capability) = with_two (kind_number capability.0, capability.1)
 
--- A text is copied as far as there is room, and its length is told.
+-- A text is copied as far as there is room, and its length is the answer.
 abbrev pub IsCopied : List ℕ → List ℕ → List ℕ → Length → Type 0
 IsCopied text before after answer =
     (answer ≡ record { fault = 0; count = length text })

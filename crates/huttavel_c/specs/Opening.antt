@@ -88,7 +88,7 @@ IsNoEntry bytes reply =
 abbrev pub fresh_writer : WriterView
 fresh_writer = record { taken = Some []; failed_puts = 0; finishes = finishes_of 0 0; is_open = false }
 
--- A screen just opened as is asked for on a terminal of this size, on its entry as programs take it.
+-- A screen just opened with these options on a terminal of this size, on its entry as programs take it.
 abbrev pub IsOpenedOn : Opening → Description → Option Size → Session → Type 0
 IsOpenedOn asked entry size session =
     IsOpenedAdapted asked (adapted entry) size session.screen × (writer session ≡ fresh_writer)

@@ -1,4 +1,4 @@
--- Characters, and what stands for them.
+-- Characters, and their stand-ins.
 use Rattle.std.proofs.Common.{◌≡◌, ℕ, Bool, true, false, ◌+◌, ◌-◌, ◌<◌, ◌≤◌, ◌&&◌, ◌||◌, List, [], ◌∷◌, Option, Some, None, SomeIff, get_or, length, nat_le, nat_lt, zero, suc, if◌then◌else◌, ap, subst, sym, ◌∙◌, refl, arith}
 use Rattle.std.proofs.lemmas.Bool.{and_parts}
 use Rattle.std.proofs.lemmas.Bool.Decides.{nat_tests}
@@ -53,7 +53,7 @@ character_of found code character same is some =
     let scalar : IsScalar code = subst IsScalar (sym same) (scalar_characters character is) in
     held found (IsScalar code) code 32 scalar some ∙ same
 
--- ---- what stands for characters
+-- ---- stand-ins of characters
 
 -- a byte of a text of ASCII
 byte_is_ascii : (text : List ℕ) (i : ℕ) → list_all is_ascii text ≡ true → i < length text → IsAscii (get_or text i 0)
@@ -85,7 +85,7 @@ pub stands_for_itself : (code : ℕ) → code < 128 → stand_in code ≡ code
 unfolding stand_in
 stands_for_itself code few = let here : nat_lt code 128 ≡ true = grind (arith, nat_tests) in ap (λ t. if t then code else likeness_in likenesses code) here
 
--- ---- what is seen of them
+-- ---- their shown forms
 
 pub seen_characters : (charset : Charset) (code : ℕ) → IsCharacter code → IsCharacter (seen_character charset code)
 unfolding seen_character

@@ -1,4 +1,4 @@
--- A look and a cell of one number: the look is what is seen of the cell.
+-- A look and a cell of one number: the look is what the terminal shows of the cell.
 use Rattle.std.proofs.Common.{◌≡◌, ◌≢◌, ◌⊎◌, inl, inr, ℕ, Bool, true, false, nat_eq, ◌+◌, ◌-◌, ◌*◌, ◌%◌, ◌/◌, ◌<◌, ◌≤◌, sym, ◌∙◌, ap, subst, refl, arith, bit_and, List, None, Some, Option, length, get_or, if◌then◌else◌}
 use Rattle.std.proofs.lemmas.Bool.{eqb-true}
 use Rattle.std.proofs.lemmas.List.{get_or_default}
@@ -71,7 +71,7 @@ no_colour_of n e = by (nat_eq n 0) refl e
     by true zero_is some = eqb-true n 0 zero_is
     by false other some = (cc)
 
--- a look of another number than that of a cell without a pair is not what is seen of the cell
+-- a look of another number than that of a cell without a pair is not what the terminal shows of the cell
 look_number : (x y : ℕ) → y < 16777216 → look_of x ≡ look_of y → x ≡ y
 look_number x y few same =
     let character : x % 65536 ≡ y % 65536 = ap (λ look. look.character) same in

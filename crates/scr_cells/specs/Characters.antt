@@ -86,14 +86,15 @@ abbrev pub is_utf8 : Charset → Bool
 is_utf8 Ascii = false
 is_utf8 Utf8 = true
 
--- What is seen of a character on a terminal with this charset: itself in UTF-8, and its stand-in in ASCII.
+-- What a terminal with this charset shows of a character: itself in UTF-8, and its stand-in in ASCII.
 unfoldable pub seen_character : Charset → ℕ → ℕ
 seen_character Ascii code = stand_in code
 seen_character Utf8 code = code
 
 -- Laws of characters: those of ASCII are the ones below 128; all are scalar values that fit 16 bits; each below 128
--- stands for itself, a character of ASCII for each, and a byte below 128 for any number. What is seen of a character is
--- one, and of those below 128 it is themselves; in ASCII it is one of ASCII. From 128 on all are characters above ASCII.
+-- stands for itself, a character of ASCII for each, and a byte below 128 for any number. The shown form of a character
+-- is one, and of those below 128 it is themselves; in ASCII it is one of ASCII. From 128 on all are characters above
+-- ASCII.
 pub record CharacterLaws : Type 0 where
   pub ascii : (code : ℕ) → IsAscii code → IsCharacter code
   pub below : (code : ℕ) → code < 128 → IsCharacter code → IsAscii code

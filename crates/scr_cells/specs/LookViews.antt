@@ -33,7 +33,7 @@ seen_pen shown colours pairs cell = record {
   background = if colours then (pair_colours pairs cell.pair).1 else None;
 }
 
--- What is seen of a cell there, if the terminal has this charset: its character or what stands for it, with that pen.
+-- What the terminal shows of a cell, if it has this charset: its character or its stand-in, with that pen.
 abbrev pub seen : Charset → ℕ → Bool → List (Option ℕ × Option ℕ) → CellView → LookView
 seen charset shown colours pairs cell = record {
   character = seen_character charset cell.character;

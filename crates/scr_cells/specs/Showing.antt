@@ -1,4 +1,4 @@
--- Places that show what is seen of their cells.
+-- Places that have the shown form of their cells.
 use Rattle.std.specs.Prelude.{ℕ, Bool, ◌≡◌, ◌≢◌, List, Option, Some, None, slice_index_or}
 use Rattle.scr_cells.specs.CellViews.{CellView, blank_cell}
 use Rattle.scr_cells.specs.LookViews.{LookView, blank, seen}
@@ -9,7 +9,7 @@ abbrev pub shown_in : Option (List LookView) → ℕ → LookView
 shown_in None place = blank
 shown_in (Some looks) place = slice_index_or looks place blank
 
--- The place shows what is seen of its cell on a terminal with this charset that shows these attributes, with colours or
+-- The place has the shown form of its cell on a terminal with this charset that shows these attributes, with colours or
 -- without, whatever colours the pairs have.
 abbrev pub IsSeenAt : Charset → ℕ → Option (List LookView) → List CellView → ℕ → Type 0
 IsSeenAt charset shown looks cells place =

@@ -4,7 +4,7 @@ ghost use Rattle.std.specs.Prelude.{⊤, [], ◌∷◌, codes};
 use bitflags::{Flag, Flags, bitflag_items};
 use std::fmt;
 
-// The attributes by their bits, in the order in which a terminal is told them.
+// The attributes by their bits, in the order in which they are sent to a terminal.
 const NAMES: [(u8, &str); 7] = [
     (1, "standout"),
     (2, "underline"),
@@ -23,7 +23,7 @@ const NAMES: [(u8, &str); 7] = [
 pub struct Attrs(pub u8);
 
 impl Attrs {
-    /// The seven attributes, in the order in which a terminal is told them.
+    /// The seven attributes, in the order in which they are sent to a terminal.
     pub const EACH: [Attrs; 7] = [
         Attrs::STANDOUT,
         Attrs::UNDERLINE,

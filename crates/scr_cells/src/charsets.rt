@@ -24,7 +24,7 @@ impl Charset {
         }
     }
 
-    /// The code of what is seen of a cell's character: itself in UTF-8, and its stand-in in ASCII.
+    /// The code that the terminal shows for a cell's character: its own in UTF-8, and that of its stand-in in ASCII.
     #[inline(always)]
     #[tactic(auto, unfolding(crate::specs::Characters::seen_character))]
     pub fn seen(self, cell: Cell) -> u32

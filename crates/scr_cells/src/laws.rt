@@ -12,13 +12,13 @@ pub fn grid_laws<T: Copy>()
 {}
 
 /// The laws of characters: those below 128 are those of ASCII, each fits 16 bits and is a `char`, and a character of
-/// ASCII stands for each. What is seen of a character is one, and of those below 128 it is themselves.
+/// ASCII stands for each. The shown form of a character is one, and of those below 128 it is themselves.
 pub fn character_laws()
     ensures { CharacterLaws }
 {}
 
-/// `Attrs::EACH` lists the attributes in the order in which a terminal is told them, and `Attrs::EVERY` has them all
-/// (X/Open Curses Issue 7, 'Attributes').
+/// `Attrs::EACH` lists the attributes in the order in which they are sent to a terminal, and `Attrs::EVERY` has them
+/// all (X/Open Curses Issue 7, 'Attributes').
 pub fn attribute_laws()
     ensures each { map (λ attribute. attribute.0) Attrs.EACH ≡ all_attributes }
     ensures every { Attrs.EVERY.0 ≡ every_attribute }

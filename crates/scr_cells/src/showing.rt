@@ -1,4 +1,4 @@
-//! Which places of a row surely show, or surely do not show, what is seen of their cells.
+//! Which places of a row surely have, or surely do not have, the shown form of their cells.
 //!
 //! They are looked at eight at a time, and where one of eight ends a count, those before it are counted. Fewer than
 //! eight that are left are for the caller to look at, place by place. A row whose looks are not given shows blanks.
@@ -14,7 +14,7 @@ use std::simd::prelude::*;
 // The number of a blank look.
 const BLANK_NUMBER: u32 = 32;
 
-/// A count of places from the left, each of which shows what is seen of its cell on a terminal with this charset that
+/// A count of places from the left, each of which has the shown form of its cell on a terminal with this charset that
 /// shows these attributes, whatever the colours of its pairs are.
 ///
 /// The places are looked at eight at a time, and fewer than eight that are left are not looked at. The count ends, at
@@ -97,9 +97,9 @@ fn zeros_from_left(numbers: u32x8) -> usize
         .trailing_ones() as usize
 }
 
-/// A count of places from the left, none of which shows what is seen of its cell on a terminal with this charset that
-/// shows these attributes, whatever the colours of its pairs are. Their cells have the attributes of the first cell, and
-/// no pair.
+/// A count of places from the left, none of which has the shown form of its cell on a terminal with this charset that
+/// shows these attributes, whatever the colours of its pairs are. Their cells have the attributes of the first cell,
+/// and no pair.
 ///
 /// The places are looked at eight at a time. The count is 0 if the first cell has a pair, or an attribute if not every
 /// attribute is shown, and in ASCII it ends before a cell with a character above it, whose stand-in a look may show. A

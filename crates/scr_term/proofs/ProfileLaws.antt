@@ -213,7 +213,7 @@ put_bytes profile code had = by (nat_lt code 128) refl
         let is : has profile (Write code) ≡ true = sym (ap (has profile) (put_of_other code many)) ∙ had in
         ap (bytes_of profile) (put_of_other code many) ∙ bytes_of_written profile code is
 
--- what is seen of any number has a byte at least
+-- the shown form of any number has a byte at least
 low_some : (profile : ProfileView) (code : ℕ) → code < 128 → 1 ≤ length (bytes_of profile (put_of code))
 low_some profile code few =
     let is : nat_lt code 128 ≡ true = grind (arith, nat_tests) in

@@ -29,7 +29,7 @@ pub ranges_are : (rows : ℕ → Bool) (f : ℕ → Range → Range) (ranges new
 ranges_are rows f ranges new len same =
     same_lists new (ranges_with rows f ranges) (len ∙ sym (as_many rows f ranges)) (λ r d h. same r d (omega (arith, len)) ∙ sym (range_of rows f ranges r d (omega (arith, len))))
 
--- rows that are told alike
+-- rows that two tests pick alike
 pub rows_alike : (rows more : ℕ → Bool) (f : ℕ → Range → Range) (ranges : List Range) → ((r : ℕ) → r < length ranges → rows r ≡ more r) → ranges_with rows f ranges ≡ ranges_with more f ranges
 rows_alike rows more f ranges same =
     ranges_are more f ranges (ranges_with rows f ranges) (as_many rows f ranges) (λ r d h. range_of rows f ranges r d h ∙ ap (λ t. cond t (f r (get_or ranges r None)) (get_or ranges r None)) (same r h))

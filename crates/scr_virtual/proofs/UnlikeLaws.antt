@@ -37,7 +37,7 @@ one_cell a b e =
 nowhere : true ≡ false → ⊥
 nowhere e = (let z : ⊥ = (cc) in z)
 
--- cells that differ are told to
+-- cells that differ are found to
 pub unlike_cell : (a b : CellView) → a ≢ b → not (cell_eq a b) ≡ true
 unlike_cell a b n = either (cell_eq a b) refl
   where
@@ -60,7 +60,7 @@ none_told t a zero range h = refl
 none_told t a (suc n) range h =
     told_or_not (λ list. joined_by list range) (t a) a (told t (a + 1) n) range (λ e. absurd (nowhere (sym e ∙ h a (omega arith) (omega arith)))) (λ e. none_told t (a + 1) n range (λ c l m. h c (omega arith) (omega arith)))
 
--- the range begins before these columns, and ends after the last of them that is told
+-- the range begins before these columns, and ends after the last of them that the test picks
 rest_told : (t : ℕ → Bool) (a n last x y : ℕ) → x ≤ a → a ≤ last → last < a + n → t last ≡ true → ((c : ℕ) → last < c → c < a + n → t c ≡ false) → joined_by (told t a n) (Some (x, y)) ≡ Some (x, max last y)
 rest_told t a zero last x y before from end is after = absurd (let z : ⊥ = omega arith in z)
 rest_told t a (suc n) last x y before from end is after = elim (same_or_not a last) [
@@ -89,7 +89,7 @@ rest_told t a (suc n) last x y before from end is after = elim (same_or_not a la
         let high : max a y ≡ max last y = omega arith in
         λ i. held (low i) (high i)
 
--- it holds those that are told, from the first to the last
+-- it holds those that the test picks, from the first to the last
 pub joined_told : (t : ℕ → Bool) (a n first last : ℕ) (range : Range) → a ≤ first → first ≤ last → last < a + n → t first ≡ true → t last ≡ true → ((c : ℕ) → a ≤ c → c < first → t c ≡ false) → ((c : ℕ) → last < c → c < a + n → t c ≡ false)
     → joined_by (told t a n) range ≡ joined (Some (first, last)) range
 joined_told t a zero first last range from order end begins ends before after = absurd (let z : ⊥ = omega arith in z)
@@ -139,7 +139,7 @@ holds_it c (Some range) = among c range.0 range.1
     among : (c a b : ℕ) → (leb (min c a) c && leb c (max c b)) ≡ true
     among c a b = grind (arith, nat_tests)
 
--- a column that is told is held
+-- a column that the test picks is held
 pub told_is_held : (t : ℕ → Bool) (a n c : ℕ) (range : Range) → a ≤ c → c < a + n → t c ≡ true → in_range (joined_by (told t a n) range) c ≡ true
 told_is_held t a zero c range from end is = absurd (let z : ⊥ = omega arith in z)
 told_is_held t a (suc n) c range from end is = elim (same_or_not a c) [

@@ -15,7 +15,7 @@ use Rattle.scr_virtual.specs.Taking.{take_pad_call, take_window_call}
 abbrev pub cell_at : VirtualView → ℕ → ℕ → CellView
 cell_at virtual r c = grid_at blank_cell virtual.picture.lines r c
 
--- What is seen of that cell on a terminal with this charset that shows these attributes, and colours or none.
+-- What a terminal with this charset that shows these attributes, and colours or none, shows of that cell.
 abbrev pub seen_at : Charset → ℕ → Bool → VirtualView → ℕ → ℕ → LookView
 seen_at charset shown colours virtual r c = seen charset shown colours virtual.picture.pairs (cell_at virtual r c)
 

@@ -19,7 +19,7 @@ use Rattle.scr_windows.specs.Calls.Adding.{fitted}
 use Rattle.scr_windows.specs.Code.Stretches.{characters_first}
 use Rattle.scr_windows.proofs.TextLaws.{first_fits}
 
--- the character that stands for what is none
+-- the character that replaces a code that is none
 pub replacement_is_character : IsCharacter 0xFFFD
 unfolding is_beyond_ascii unicode_width general_category
 replacement_is_character = refl

@@ -369,8 +369,8 @@ pub record AreMade (old new : ScreenState) (calls : List Call) (before after : W
   pub agrees : (n : ℕ) (opened now : TerminalState) → n ≤ length report.answers → MayBegin old.profile (beginning_of old) calls report.answers n opened → runs old.profile opened (begun_in report.answers) ≡ Some now
       → Agrees (abilities old.profile) new.memory now
 
--- The report of a session on a screen opened on this entry, as is asked for; `old` and `new` are the writer before and
--- after.
+-- The report of a session on a screen opened on this entry with these options; `old` and `new` are the writer before
+-- and after.
 pub record IsReportAs (asked : Opening) (entry : Description) (size : Option Size) (calls : List Call) (old new : WriterView) (report : Report) : Type 0 where
   pub profile : ProfileView
   pub admitted : IsAdmittedAs asked.charset (served asked entry) size profile

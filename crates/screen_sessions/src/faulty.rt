@@ -1,4 +1,4 @@
-//! A writer for tests, which fails when it is told to. The definitions are in `specs/Faulty.antt`.
+//! A writer for tests, which fails after given counts of bytes. The definitions are in `specs/Faulty.antt`.
 ghost use Rattle.std.specs.Prelude.{◌≡◌, ◌≤◌, ◌<◌, ◌+◌, ◌++◌, ◌⊎◌, [], OnErr, OnOk, Some, length, take, vec_capacity};
 ghost use Rattle.std.specs.Io.{WritesAtMost};
 ghost use Rattle.std.specs.Io.KnownBytes.{Keeps, WriteAppends};

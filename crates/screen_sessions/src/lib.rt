@@ -1,5 +1,5 @@
-//! Sessions: calls on a screen as values, lists of them with their answers, and a writer for tests that fails when it
-//! is told to.
+//! Sessions: calls on a screen as values, lists of them with their answers, and a writer for tests that fails
+//! after given counts of bytes.
 #![tactic(auto)]
 
 mod answers;

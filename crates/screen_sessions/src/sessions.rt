@@ -68,7 +68,7 @@ pub fn session<W: Counted>(
     session_as(alloc, entry, size, Opening::new(), calls, out)
 }
 
-/// The same on a screen that is opened as is asked for (`Screen::open_as`).
+/// The same on a screen that is opened with these options (`Screen::open_as`).
 pub fn session_as<W: Counted>(
     alloc: Global,
     entry: &Entry,

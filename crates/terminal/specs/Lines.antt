@@ -13,7 +13,7 @@ use Rattle.terminal.specs.declared.sizes.SizeMessage.{SizeMessage}
 use Rattle.terminal.specs.declared.sizes.SizeMessage.TheVariants as told
 
 -- The terminal's size, if anything says what it is; whether the program is asked to end, and to stop; how many empty
--- reads in a row were sudden; and whether there is a folder through which the line is told anything.
+-- reads in a row were sudden; and whether there is a folder that messages to the line come from.
 pub record LineView : Type 0 where
   pub size : Option Size
   pub is_ending : Bool
@@ -21,14 +21,14 @@ pub record LineView : Type 0 where
   pub sudden : ℕ
   pub has_folder : Bool
 
--- The line once it was told this: a size is the new one, and ends a stop; an end stays.
+-- The line after this message: a size is the new one, and ends a stop; an end stays.
 abbrev pub after_told : LineView → SizeMessage → LineView
 after_told line (told.Size size) = record line { size = Some size; is_stopping = false }
 after_told line told.End = record line { is_ending = true }
 after_told line told.Stop = record line { is_stopping = true }
 after_told line told.Nothing = line
 
--- A look at the folder told something; without a folder, nothing.
+-- A look at the folder found something; without a folder, nothing.
 pub record IsLook (old new : LineView) : Type 0 where
   pub said : SizeMessage
   pub silent : old.has_folder ≡ false → said ≡ told.Nothing
@@ -64,8 +64,8 @@ pub record IsNoRead (before after : Option (List ℕ)) (old new : LineView) (inp
   pub kept : after ≡ before
 
 -- A read of the line: one of the keyboard, from which these bytes are still to come, and then those; or none where the
--- clock cannot be read or there is no room. Then a look at the folder. If that or an earlier one told an end, or it told
--- a stop, the program hears of it where nothing came.
+-- clock cannot be read or there is no room. Then a look at the folder. If that or an earlier one found an end, or it
+-- found a stop, the program hears of it where nothing came.
 pub record IsLineRead (before after : Option (List ℕ)) (piece : List ℕ) (old new : LineView) (input : Input) : Type 0 where
   pub between : LineView
   pub found : Input
@@ -74,7 +74,7 @@ pub record IsLineRead (before after : Option (List ℕ)) (piece : List ℕ) (old
   pub is : input ≡ heard new.is_ending new.is_stopping found
 
 -- A line that was just opened: the size that two variables say, if they say one, and what a first look at the folder
--- told.
+-- found.
 pub record IsOpened (line : LineView) : Type 0 where
   pub rows : List ℕ
   pub columns : List ℕ

@@ -14,7 +14,8 @@ pub enum Event {
     Character(char),
     /// The terminal has a new size, and the screen is a new one of that size, blank and with its first window alone.
     Resized,
-    /// The program was suspended, by `^Z` or by a stop from elsewhere, or could not be: nothing is known of what the terminal shows, so update it.
+    /// The program was suspended, by `^Z` or by a stop from elsewhere, or could not be. Nothing is known of what the
+    /// terminal shows: update the screen.
     Continued,
     /// The input has ended, or the program is asked to end.
     Ended,

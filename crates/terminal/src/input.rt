@@ -1,4 +1,4 @@
-//! What comes of a read of the keyboard, and how an input that has ended is told from one that is silent.
+//! What comes of a read of the keyboard, and how an ended input differs from a silent one.
 ghost use Rattle.std.specs.Prelude.{◌≡◌, [], List, ℕ};
 ghost use Rattle.std.specs.Duration.{as_nanos};
 ghost use Rattle.std.specs.IoError.{error_kind};

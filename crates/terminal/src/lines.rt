@@ -90,7 +90,7 @@ impl TerminalLine {
     /// changed.
     ///
     /// Idle if nothing came while the read waited, or a signal ended it. Ended if the program is asked to end, at once
-    /// if it was asked before, else if no byte came; and if the input has ended. How that is told from silence: three
+    /// if it was asked before, else if no byte came; and if the input has ended. How that differs from silence: three
     /// empty reads in a row return within 20 milliseconds, while a line in raw mode lets each wait for a tenth of a
     /// second. So a program whose input is a file gets Idle twice first. Stop if nothing came and the program is asked to
     /// stop. Failed if the piece is empty, the read fails or the clock cannot be read.

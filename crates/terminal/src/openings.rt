@@ -22,7 +22,7 @@ impl TerminalScreen {
     /// Opens a screen of the terminal's size, or of the entry's own if nothing says what that is, on the entry of the
     /// machine's database that `TERM` names, and starts it. Characters above ASCII are sent in UTF-8 where the locale
     /// says UTF-8: the first of `LC_ALL`, `LC_CTYPE` and `LANG` that is set and not empty names a locale with `.UTF-8`
-    /// or `.utf8`, in any case. Elsewhere what stands for them in ASCII is sent.
+    /// or `.utf8`, in any case. Elsewhere their ASCII stand-ins are sent.
     ///
     /// Refused if `TERM` is not set, if there is no such entry or it cannot be served, if the standard input is a
     /// terminal that is not in raw mode, or if memory runs out. Nothing was written then.
@@ -32,7 +32,7 @@ impl TerminalScreen {
         TerminalScreen::open_as(rt, opening)
     }
 
-    /// Like `open`, but as is asked for, whatever the locale says.
+    /// Like `open`, but with these options, whatever the locale says.
     pub fn open_as(rt: &HostRuntime, opening: Opening) -> Result<TerminalScreen, TerminalFault> {
         let name = terminal_name(rt)?;
         match find(rt, name.as_str()) {
@@ -47,7 +47,7 @@ impl TerminalScreen {
         TerminalScreen::open_entry_as(rt, entry, opening)
     }
 
-    /// Like `open_entry`, but as is asked for, whatever the locale says.
+    /// Like `open_entry`, but with these options, whatever the locale says.
     pub fn open_entry_as(
         rt: &HostRuntime,
         entry: Entry,
@@ -79,7 +79,7 @@ impl TerminalScreen {
     }
 }
 
-/// The opening of a screen of this size as is asked for, on the terminal of the program. A screen of the most rows or
+/// These options for a screen of this size on the terminal of the program. A screen of the most rows or
 /// columns that there can be may be smaller than its terminal, and so may one of the entry's own size (`None`).
 pub(crate) fn opening_on(opening: Opening, size: Option<Size>) -> Opening
     ensures { result ≡ record opening { is_larger = opening.is_larger || may_be_larger size } }

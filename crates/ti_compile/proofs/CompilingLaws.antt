@@ -58,7 +58,7 @@ refused-at entries names i name ds fault so_far at refused = record {
   refused = refused;
 }
 
--- the same of what is seen of a compiler
+-- the same of the model of a compiler
 pub refused-seen : {entries : List Described} {next : ℕ} {seen : EntryCompiling} {fault : TicFault} → ◌≡◌ {A = EntryCompiling} (record { entries = entries; next = next }) seen → IsFirstRefused entries (names_of entries) fault → IsFirstRefused seen.entries (names_of seen.entries) fault
 refused-seen {fault = fault} is refused = subst (λ (s : EntryCompiling). IsFirstRefused s.entries (names_of s.entries) fault) is refused
 

@@ -22,7 +22,7 @@ good-at (x ∷ xs) (suc i) s all at = good-at xs i s all.1 at
 pub good-read : (ss : List Statement) (k : ℕ) (s : Statement) → AreGood ss → k < length ss → s ≡ get_or ss k s → IsGood s.field_value
 good-read ss k s all lt is = good-at ss k s all (slice_get_read ss (length ss) k s refl lt is)
 
--- the same of what stands for them
+-- the same of values that stand for statements
 pub good-seen : {R : Type 0} → (seen : R → Statement) (rs : List R) (k : ℕ) (r : R) → AreGood (map seen rs) → k < length (map seen rs) → r ≡ get_or rs k r → IsGood (seen r).field_value
 good-seen seen rs k r all lt is =
     let room : k < length rs = rw (← length-map rs seen) lt in

@@ -16,7 +16,7 @@ pub(crate) struct Located<'a> {
     pub(crate) offset: usize,
     /// The field or the name that it is about, if it is about one.
     pub(crate) field: Option<&'a [u8]>,
-    /// Whether its column is known, so that it is told.
+    /// Whether its column is known and printed.
     pub(crate) has_column: bool,
 }
 

@@ -8,7 +8,7 @@
 //!
 //! Notes on doubtful fields, and what a listing leaves out, go to standard error. An error is printed
 //! there as `tic: ` and its text; with `-v` errors and notes begin with the file, the line and the
-//! entry in its place, and it is told how often each unknown name occurs. The usage text goes there
+//! entry in its place, and a note says how often each unknown name occurs. The usage text goes there
 //! too, which `--help` and `--version` ask for. The status is 0, 1 for an error and 2 for a usage
 //! error, as these two are.
 #![tactic(auto)]

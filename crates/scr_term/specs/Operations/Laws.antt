@@ -42,8 +42,8 @@ StepsKeepStates =
     → IsState (abilities profile) new
 
 -- A run of two lists is the second run after the first, also where the first is undefined; their bytes are joined
--- likewise. A run leads from a state of the profile to one, and only has operations that the profile has. What writes what
--- is seen of a character has a byte at least.
+-- likewise. A run leads from a state of the profile to one, and only has operations that the profile has. What writes
+-- the shown form of a character has a byte at least.
 pub record RunLaws : Type 0 where
   pub after : (profile : ProfileView) (old : TerminalState) (ops more : List Op) → runs profile old (ops ++ more) ≡ option_and_then (λ next. runs profile next more) (runs profile old ops)
   pub joined : (profile : ProfileView) (old next : TerminalState) (ops more : List Op) → runs profile old ops ≡ Some next → runs profile old (ops ++ more) ≡ runs profile next more
@@ -58,13 +58,13 @@ pub record BlankLaws : Type 0 where
   pub state : (profile : ProfileView) → IsProfile profile → IsState (abilities profile) (blank_state profile.rows profile.columns)
   pub negative : (rows columns : ℕ) → negative_state (blank_state rows columns) ≡ blank_state rows columns
 
--- A profile can write what is seen of each character.
+-- A profile can write the shown form of each character.
 unfoldable pub WritesSeen : ProfileView → Type 0
 WritesSeen profile = (code : ℕ) → IsCharacter code → has profile (put_of (seen_character profile.charset code)) ≡ true
 
 -- What can be relied on: a profile can move the cursor everywhere, clear the screen and write each character of ASCII,
--- and what is seen of another, each in UTF-8. It can turn on each attribute and set each colour that it shows, and reset
--- them; without `sgr0` it shows none.
+-- and the shown form of another, each in UTF-8. It can turn on each attribute and set each colour that it shows, and
+-- reset them; without `sgr0` it shows none.
 pub record HasLaws (profile : ProfileView) : Type 0 where
   pub can_show : AreAbilities (abilities profile)
   pub move : (r c : ℕ) → r < profile.rows → c < profile.columns → has profile (Move r c) ≡ true

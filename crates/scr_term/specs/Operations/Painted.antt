@@ -7,15 +7,15 @@ use Rattle.scr_term.specs.Operations.Abilities.{Abilities}
 use Rattle.scr_term.specs.Operations.States.{TerminalState}
 use Rattle.scr_term.specs.declared.operations.operation.Spot.TheVariants.{At}
 
--- What is seen of a cell on a terminal with these abilities, if the pairs have these colours.
+-- What a terminal with these abilities shows of a cell, if the pairs have these colours.
 abbrev pub seen_on : Abilities → List (Option ℕ × Option ℕ) → CellView → LookView
 seen_on abilities pairs = seen abilities.charset abilities.shown abilities.colours pairs
 
--- What is seen of the picture's cell, at every place.
+-- What the terminal shows of the picture's cell, at every place.
 abbrev pub painted : Abilities → PictureView → List (List LookView)
 painted abilities picture = map (map (seen_on abilities picture.pairs)) picture.lines
 
--- The terminal shows the picture: what is seen of it at every place, and the cursor where the picture asks for it, if
+-- The terminal shows the picture: each of its cells in its place, and the cursor where the picture asks for it, if
 -- it does.
 pub record Shows (abilities : Abilities) (state : TerminalState) (picture : PictureView) : Type 0 where
   pub grid : state.grid ≡ painted abilities picture

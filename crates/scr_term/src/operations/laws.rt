@@ -10,7 +10,7 @@ use scr_cells::character_laws;
 use ti_caps::moves_are_left_out;
 use ti_param::{increment_adds_one, number_writes_decimal};
 
-/// What every profile has: it moves the cursor anywhere, clears the screen and writes what is seen
+/// What every profile has: it moves the cursor anywhere, clears the screen and writes the shown form
 /// of every character. If it has `sgr0` it can reset; it can turn on each attribute and set each colour that
 /// it shows. Without `sgr0` it shows none.
 pub fn profiles_have()
@@ -63,7 +63,7 @@ pub fn moves_refuse_nothing()
 
 /// Runs of operations can be joined, also if the first is undefined, and so can their bytes. A run
 /// leads from a state of a profile to a state of the same profile, and has only operations that the
-/// profile has. What writes what is seen of a character sends a byte at least.
+/// profile has. What writes the shown form of a character sends a byte at least.
 pub fn run_laws()
     ensures { RunLaws }
 {
