@@ -29,13 +29,12 @@ pub fn answer_of_script(subjects: &mut Subjects, line: &mut CallLine<'_>) -> Res
     let mut out = writer_that(line.alloc, fails)?;
     let is_raw = matches!(line.name, "run_raw" | "feed_run");
     let ended = if line.name == "utf8_run" {
-        let charset = Charset::Utf8;
-        run_as(
-            line.alloc,
-            text.bytes(),
-            Output { charset, is_raw },
-            &mut out,
-        )
+        let output = Output {
+            charset: Charset::Utf8,
+            is_raw,
+            reads_calls: false,
+        };
+        run_as(line.alloc, text.bytes(), output, &mut out)
     } else {
         run(line.alloc, text.bytes(), is_raw, &mut out)
     };

@@ -1,12 +1,12 @@
 //! Answers of calls on a screen, in words.
 
-use check_harness::answers::{add_count, add_name, add_number, add_place, add_word};
+use check_harness::answers::{add_number, add_place, add_word};
 use check_harness::buffers::Buffer;
 use curses::{SendFault, UpdateFault};
 use scr_term::{Op, Spot};
 use scr_windows::WinFault;
 use screen_sessions::Answer;
-use std::io::{ErrorKind, Write};
+use std::io::Write;
 
 /// Adds what a call answered.
 pub fn add_answer(answer: &Answer, got: &mut Buffer) {
@@ -35,23 +35,12 @@ pub fn begun_by(answer: &Answer) -> &[Op] {
 
 /// Adds `Ok` and how many bytes were sent, or why not all were, and how many.
 pub fn add_sent(sent: &Result<u64, SendFault>, got: &mut Buffer) {
-    match sent {
-        Ok(bytes) => {
-            add_word("Ok", got);
-            add_count(*bytes, got);
-        }
-        Err(SendFault::Write { sent, kind }) => add_failure("Write", *kind, &[*sent], got),
-        Err(SendFault::Flush { sent, kind }) => add_failure("Flush", *kind, &[*sent], got),
-    }
-}
-
-// Adds what failed, the kind of its error, and how much was begun and sent.
-fn add_failure(what: &str, kind: ErrorKind, counts: &[u64], got: &mut Buffer) {
-    add_word(what, got);
-    add_name(&kind, got);
-    for count in counts {
-        add_count(*count, got);
-    }
+    let written = match sent {
+        Ok(bytes) => write!(got.vector(), " Ok {bytes}"),
+        Err(SendFault::Write { sent, kind }) => write!(got.vector(), " Write {kind:?} {sent}"),
+        Err(SendFault::Flush { sent, kind }) => write!(got.vector(), " Flush {kind:?} {sent}"),
+    };
+    got.check(written.is_ok());
 }
 
 /// Adds `Ok`, or that what was executed or read is undefined.

@@ -12,9 +12,9 @@ use std::io::{ErrorKind, Write};
 
 /// Cuts the last update of a screen after each number of its bytes, by an error and by a write that accepts nothing,
 /// and at its flush, up to the first cut that does not agree; gives how many agree and how many there are, none if
-/// nothing was sent. All updates up to it ended well. Each cut is made in a session that makes all calls anew, and two updates
-/// after them. The error has to tell what was begun and how much was sent, and what was begun has to be sent to its
-/// end; the next update is Ok, and then a terminal shows the plain picture; the last is Ok and sends nothing.
+/// nothing was sent. All updates up to it ended well. Each cut is made in a session that makes all calls anew, and two
+/// updates after them. The error has to tell what was begun and how much was sent, and what was begun has to be sent to
+/// its end; the next update is Ok, and then a terminal shows the plain picture; the last is Ok and sends nothing.
 ///
 /// Refused if memory runs out.
 pub fn count_cuts(opened: &mut Recorded) -> Result<(usize, usize), Trouble> {
@@ -39,21 +39,31 @@ fn count_agreeing(opened: &Recorded, all: usize) -> Result<usize, Trouble> {
     Ok(all)
 }
 
-// Makes a cut: number 0 and 1 before the first byte, and so on.
-fn agrees(opened: &Recorded, number: usize) -> Result<bool, Trouble> {
-    let (after, update) = (number / 2, opened.last_sent().len());
-    let (failure, how) = if after >= update {
-        (WriterFailure::Flush, "Flush Other")
+/// How a cut of an update of so many bytes fails, after how many of them: number 0 and 1 before the first, and so on;
+/// the last one at its flush.
+pub fn cut_of(bytes: usize, number: usize) -> (usize, WriterFailure) {
+    let failure = if number / 2 >= bytes {
+        WriterFailure::Flush
     } else if number % 2 == 0 {
-        (WriterFailure::Error, "Write Other")
+        WriterFailure::Error
     } else {
-        (WriterFailure::Zero, "Write WriteZero")
+        WriterFailure::Zero
     };
-    let start = opened.sent.len().saturating_sub(update);
-    let limit = start.saturating_add(after);
+    (number / 2, failure)
+}
+
+// Makes a cut.
+fn agrees(opened: &Recorded, number: usize) -> Result<bool, Trouble> {
+    let update = opened.last_sent().len();
+    let (after, failure) = cut_of(update, number);
+    let limit = opened
+        .sent
+        .len()
+        .saturating_sub(update)
+        .saturating_add(after);
     let mut device = Device::new(Faulty::new(opened.alloc, limit, failure, 1));
     match opened.call_again(&mut device) {
-        Ok(report) => is_wanted(opened, how, after, &report, device.writer.taken()),
+        Ok(report) => is_wanted(opened, failure, after, &report, device.writer.taken()),
         Err(OpenFault::NoMemory) => Err(Trouble::NoMemory),
         Err(_) => Err(Trouble::Bad("no session")),
     }
@@ -63,7 +73,7 @@ fn agrees(opened: &Recorded, number: usize) -> Result<bool, Trouble> {
 // picture, where the first of them is cut after so many of its bytes.
 fn is_wanted(
     opened: &Recorded,
-    how: &str,
+    failure: WriterFailure,
     after: usize,
     report: &Report,
     taken: &[u8],
@@ -78,6 +88,11 @@ fn is_wanted(
     let start = opened.sent.len().saturating_sub(opened.last_sent().len());
     let rest = taken.len().saturating_sub(start.saturating_add(after));
     let mut wanted = Buffer::new(opened.alloc);
+    let how = match failure {
+        WriterFailure::Error => "Write Other",
+        WriterFailure::Zero => "Write WriteZero",
+        WriterFailure::Flush => "Flush Other",
+    };
     let count = begun.len();
     let written = write!(wanted.vector(), " {how} {count} {after} Ok {rest} Ok 0");
     wanted.check(written.is_ok());

@@ -14,15 +14,9 @@ pub struct Emulated {
     // It reads the bytes that are sent, where these are ECMA-48, and what it shows counts then. It does not know the
     // texts that move lines and characters or repeat these: a terminal that has one of them is the other alone.
     screen: Option<EcmaScreen>,
-    // The same terminal with what its screen leaves out, if it leaves anything out.
-    whole: Option<Whole>,
-}
-
-// A terminal of one column more than its screen has, and perhaps more rows.
-#[derive(Drop)]
-struct Whole {
-    profile: Profile,
-    terminal: Terminal,
+    // The same terminal with what its screen leaves out, one column and perhaps some rows, and its profile, if it leaves
+    // anything out.
+    whole: Option<(Profile, Terminal)>,
 }
 
 impl Emulated {
@@ -41,11 +35,11 @@ impl Emulated {
         })
     }
 
-    /// Has a blank column behind those of the screen, and perhaps blank rows below, by a profile of the same entry with as
-    /// many more. No operation may reach them.
+    /// Has a blank column behind those of the screen, and perhaps blank rows below, by a profile of the same entry with
+    /// as many more. No operation may reach them.
     pub fn enlarge(&mut self, alloc: Global, profile: Profile) -> Result<(), NoMemory> {
         let terminal = Terminal::new(alloc, profile.size())?;
-        self.whole = Some(Whole { profile, terminal });
+        self.whole = Some((profile, terminal));
         Ok(())
     }
 
@@ -64,13 +58,19 @@ impl Emulated {
             if !matches!(step_on(&mut self.terminal, profile, *op), Ok(true)) {
                 return false;
             }
-            if let Some(whole) = &mut self.whole
-                && !whole.follows(&self.terminal, *op)
+            if let Some((profile, whole)) = &mut self.whole
+                && (!matches!(step_on(whole, profile, *op), Ok(true))
+                    || !are_alike(&self.terminal, whole))
             {
                 return false;
             }
         }
         self.screen.is_none() || self.feed(bytes)
+    }
+
+    /// What it shows by the bytes that it read, if it reads any.
+    pub fn screen(&self) -> Option<&EcmaScreen> {
+        self.screen.as_ref()
     }
 
     /// The number of rows and columns.
@@ -115,29 +115,20 @@ impl Emulated {
     }
 }
 
-impl Whole {
-    // Executes an operation that another terminal has executed, which has the last column less, and tells whether it is
-    // defined and both show the same then, with a blank last column.
-    fn follows(&mut self, other: &Terminal, op: Op) -> bool {
-        matches!(step_on(&mut self.terminal, &self.profile, op), Ok(true))
-            && self.has_same_spot(other)
-            && (0..other.size().rows).all(|row| self.has_same_row(other, row))
-    }
+// Whether a terminal shows the same with a blank last column, and has its cursor in the same place; behind the last
+// column of the other, it is in its own.
+fn are_alike(terminal: &Terminal, whole: &Terminal) -> bool {
+    let spot = match terminal.spot() {
+        Spot::Margin(row) => Spot::At(row, terminal.size().columns),
+        spot => spot,
+    };
+    whole.spot() == spot && (0..terminal.size().rows).all(|row| has_same_row(terminal, whole, row))
+}
 
-    // Whether the cursor is in the same place; behind the other's last column, it is in the last one here.
-    fn has_same_spot(&self, other: &Terminal) -> bool {
-        let spot = match other.spot() {
-            Spot::At(row, column) => Spot::At(row, column),
-            Spot::Margin(row) => Spot::At(row, other.size().columns),
-        };
-        self.terminal.spot() == spot
-    }
-
-    fn has_same_row(&self, other: &Terminal, row: u32) -> bool {
-        match row_of(&self.terminal, row).split_last() {
-            Some((last, looks)) => *last == Look::blank() && looks == row_of(other, row),
-            None => false,
-        }
+fn has_same_row(terminal: &Terminal, whole: &Terminal, row: u32) -> bool {
+    match row_of(whole, row).split_last() {
+        Some((last, looks)) => *last == Look::blank() && looks == row_of(terminal, row),
+        None => false,
     }
 }
 

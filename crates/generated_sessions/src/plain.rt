@@ -10,14 +10,11 @@ use scr_windows::{Win, WindowRef};
 use screen_sessions::Call;
 use std::alloc::Global;
 
-// What a place has: a character, its ASCII stand-in, attributes and a colour pair.
-type PlainPlace = (char, u8, u8, u32);
-
 /// The picture.
 #[derive(Drop)]
 pub struct Plain {
     size: Size,
-    places: Vec<PlainPlace>,
+    cells: Vec<Cell>,
     // The foreground and the background of each colour pair.
     pairs: Vec<(Option<u32>, Option<u32>)>,
     wish: Option<(u32, u32)>,
@@ -25,15 +22,12 @@ pub struct Plain {
     touched: Vec<bool>,
 }
 
-// A part of a window, and where its first place comes on the screen.
+// A part of a window: its first place, how many rows and columns it has, and where its first place comes on the screen.
 #[derive(Clone, Copy)]
-struct WindowPart {
-    row: u32,
-    column: u32,
-    top: u32,
-    left: u32,
-    rows: u32,
-    columns: u32,
+struct Part {
+    first: (u32, u32),
+    extent: (u32, u32),
+    place: (u32, u32),
 }
 
 impl Plain {
@@ -42,7 +36,7 @@ impl Plain {
         let places = (size.rows as usize).saturating_mul(size.columns as usize);
         Ok(Plain {
             size,
-            places: vec![in alloc; (' ', b' ', 0, 0); places]?,
+            cells: vec![in alloc; Cell::blank(); places]?,
             pairs: vec![in alloc; (Some(7), Some(0)); 64]?,
             wish: None,
             touched: Vec::new(alloc),
@@ -55,8 +49,7 @@ impl Plain {
         if let Call::Noutrefresh(win) = call
             && let Ok(window) = screen.window(*win)
         {
-            let (rows, _) = window.size();
-            for row in 0..rows {
+            for row in 0..window.size().0 {
                 self.touched.push(is_touched(&window, row))?;
             }
         }
@@ -73,18 +66,26 @@ impl Plain {
                 self.set_pair(*pair, (*foreground, *background));
             }
             Call::Noutrefresh(win) => {
-                if let Some(part) = window_part(screen, *win) {
-                    self.take(screen, *win, part);
+                if let (Ok(place), Ok(extent)) = (screen.origin(*win), screen.size(*win)) {
+                    let first = (0, 0);
+                    self.take(
+                        screen,
+                        *win,
+                        Part {
+                            first,
+                            extent,
+                            place,
+                        },
+                    );
                 }
             }
             Call::PadNoutrefresh(win, row, column, top, left, bottom, right) => {
-                let part = WindowPart {
-                    row: *row,
-                    column: *column,
-                    top: *top,
-                    left: *left,
-                    rows: bottom.saturating_sub(*top).saturating_add(1),
-                    columns: right.saturating_sub(*left).saturating_add(1),
+                let rows = bottom.saturating_sub(*top).saturating_add(1);
+                let columns = right.saturating_sub(*left).saturating_add(1);
+                let part = Part {
+                    first: (*row, *column),
+                    extent: (rows, columns),
+                    place: (*top, *left),
                 };
                 self.take(screen, *win, part);
             }
@@ -92,13 +93,19 @@ impl Plain {
         }
     }
 
+    fn set_pair(&mut self, pair: u32, colours: (Option<u32>, Option<u32>)) {
+        if let Some(there) = self.pairs.get_mut(pair as usize) {
+            *there = colours;
+        }
+    }
+
     // Copies a part of a window, and the window's cursor, where it lies in that.
-    fn take(&mut self, screen: &Screen, win: Win, part: WindowPart) {
+    fn take(&mut self, screen: &Screen, win: Win, part: Part) {
         let Ok(window) = screen.window(win) else {
             return;
         };
-        for row in 0..part.rows {
-            let line = part.row.saturating_add(row);
+        for row in 0..part.extent.0 {
+            let line = part.first.0.saturating_add(row);
             if self.touched.get(line as usize) != Some(&false) {
                 self.take_line(line_of(&window, line), part, row);
             }
@@ -110,25 +117,12 @@ impl Plain {
         };
     }
 
-    fn set_pair(&mut self, pair: u32, colours: (Option<u32>, Option<u32>)) {
-        if let Some(there) = self.pairs.get_mut(pair as usize) {
-            *there = colours;
-        }
-    }
-
-    fn take_line(&mut self, line: &[Cell], part: WindowPart, row: u32) {
-        let cells = line
-            .iter()
-            .skip(part.column as usize)
-            .take(part.columns as usize);
-        let first = self.place_of(part.top.saturating_add(row), part.left);
-        for (place, cell) in self.places.iter_mut().skip(first).zip(cells) {
-            *place = (
-                cell.character(),
-                cell.stand_in(),
-                cell.attrs().0,
-                cell.pair(),
-            );
+    fn take_line(&mut self, line: &[Cell], part: Part, row: u32) {
+        let ((_, column), (_, columns), (top, left)) = (part.first, part.extent, part.place);
+        let cells = line.iter().skip(column as usize).take(columns as usize);
+        let first = self.place_of(top.saturating_add(row), left);
+        for (place, cell) in self.cells.iter_mut().skip(first).zip(cells) {
+            *place = *cell;
         }
     }
 
@@ -141,11 +135,7 @@ impl Plain {
 
     /// Whether a terminal shows it, with the cursor where it is wished.
     pub fn is_shown(&self, emulated: &Emulated, profile: &Profile) -> bool {
-        let size = emulated.size();
-        if size.rows != self.size.rows || size.columns != self.size.columns {
-            return false;
-        }
-        for row in 0..size.rows {
+        for row in 0..self.size.rows {
             if !self.is_row_shown(emulated, profile, row) {
                 return false;
             }
@@ -158,27 +148,21 @@ impl Plain {
 
     fn is_row_shown(&self, emulated: &Emulated, profile: &Profile, row: u32) -> bool {
         let looks = emulated.row(row);
-        let places = self.places.iter().skip(self.place_of(row, 0));
-        for (look, place) in looks.iter().zip(places) {
-            if !self.is_seen(emulated, profile, *look, *place) {
+        let cells = self.cells.iter().skip(self.place_of(row, 0));
+        for (look, cell) in looks.iter().zip(cells) {
+            if !self.is_seen(emulated, profile, *look, *cell) {
                 return false;
             }
         }
         looks.len() == self.size.columns as usize
     }
 
-    // Whether a look is what a terminal with these operations shows of a place.
-    fn is_seen(
-        &self,
-        emulated: &Emulated,
-        profile: &Profile,
-        look: Look,
-        place: PlainPlace,
-    ) -> bool {
-        let (character, stand_in, attrs, pair) = place;
+    // Whether a look is what a terminal with these operations shows of a cell.
+    fn is_seen(&self, emulated: &Emulated, profile: &Profile, look: Look, cell: Cell) -> bool {
+        let (attrs, pair) = (cell.attrs().0, cell.pair());
         let wanted = match profile.charset() {
-            Charset::Ascii => char::from(stand_in),
-            Charset::Utf8 => character,
+            Charset::Ascii => char::from(cell.stand_in()),
+            Charset::Utf8 => cell.character(),
         };
         let (foreground, background) = match self.pairs.get(pair as usize) {
             Some(colours) if pair > 0 && profile.colours() => *colours,
@@ -191,43 +175,31 @@ impl Plain {
     }
 }
 
-impl WindowPart {
+impl Part {
     // Where a place of the window is shown, if it is.
     fn shown_at(self, (row, column): (u32, u32)) -> Option<(u32, u32)> {
-        let down = row.checked_sub(self.row)?;
-        let across = column.checked_sub(self.column)?;
-        if down >= self.rows || across >= self.columns {
+        let (down, across) = (
+            row.checked_sub(self.first.0)?,
+            column.checked_sub(self.first.1)?,
+        );
+        if down >= self.extent.0 || across >= self.extent.1 {
             return None;
         }
-        Some((
-            self.top.saturating_add(down),
-            self.left.saturating_add(across),
-        ))
+        let (top, left) = self.place;
+        Some((top.saturating_add(down), left.saturating_add(across)))
     }
-}
-
-// All of a window, in its place on the screen.
-fn window_part(screen: &Screen, win: Win) -> Option<WindowPart> {
-    let (top, left) = screen.origin(win).ok()?;
-    let (rows, columns) = screen.size(win).ok()?;
-    Some(WindowPart {
-        row: 0,
-        column: 0,
-        top,
-        left,
-        rows,
-        columns,
-    })
 }
 
 /// The cells of a line of a window, none where it has no such line.
 pub fn line_of<'a>(window: &WindowRef<'a>, row: u32) -> &'a [Cell] {
-    let (rows, _) = window.size();
-    if row < rows { window.line(row) } else { &[] }
+    if row < window.size().0 {
+        window.line(row)
+    } else {
+        &[]
+    }
 }
 
 /// Whether a line of a window is touched.
 pub fn is_touched(window: &WindowRef<'_>, row: u32) -> bool {
-    let (rows, _) = window.size();
-    row < rows && window.is_touched(row)
+    row < window.size().0 && window.is_touched(row)
 }

@@ -2,21 +2,20 @@
 //! now and then, or are cut after each number of their bytes.
 
 use crate::calls::obey;
-use crate::cuts::count_cuts;
+use crate::cuts::{count_cuts, cut_of};
 use crate::entries::read_entry;
-use crate::made_up::{add_line, add_line_beyond, add_taking};
+use crate::made_up::Maker;
 use crate::recorded::Recorded;
-use check_harness::answers::{add_count, add_number, add_text, add_word};
+use check_harness::answers::{add_count, add_number, add_word};
 use check_harness::buffers::Buffer;
-use check_harness::random::Random;
 use check_harness::troubles::Trouble;
 use check_harness::words::{CallLine, Words};
 use curses::{KeySet, Opening};
 use scr_cells::{Charset, Size};
 use scr_term::Op;
+use screen_sessions::WriterFailure;
 use std::alloc::Global;
 use std::io::Write;
-use ti_caps::Entry;
 
 // What each session begins with: two pairs of colours, a small window, a pad, a subwindow, and some rows of text.
 static BEGIN: [&str; 8] = [
@@ -30,24 +29,31 @@ static BEGIN: [&str; 8] = [
     "add_text 0 \"pi rho omicron alpha be gamma delta\\n\\nx be alpha rho gamma delta pi\\nbe\\n\"",
 ];
 
+// The line of an update in a script.
+const UPDATE: &[u8] = b"update\n";
+
 // The sessions of a line, up to now.
 #[derive(Drop)]
-struct Sessions {
+struct Sessions<'a> {
     alloc: Global,
     size: Size,
     opening: Opening,
     updates: u32,
+    // How the bundled entry is changed.
+    names: Words<'a>,
     // Whether the terminal's last column is left out.
     is_narrow: bool,
     // Whether each update is cut after each number of its bytes.
     is_cut: bool,
-    random: Random,
+    // Whether others write on the terminal now and then, and whether they did in this session.
+    has_others: bool,
+    wrote: bool,
+    maker: Maker,
     // How many updates sent something and ended well, failed, and moved rows or characters, and how often one was cut.
     counts: [u32; 4],
-    line: Buffer,
     answer: Buffer,
-    // All lines of this session.
-    story: Buffer,
+    // This session as a script.
+    script: Buffer,
 }
 
 /// The line `sessions R C COUNT UPDATES SEED SENT FAILED MOVED NAME ..`: so many sessions on a screen as with `screen R
@@ -55,56 +61,78 @@ struct Sessions {
 /// is marked. Some updates fail after some of their bytes. After each that is Ok the terminal has to show the plain
 /// picture, and all calls of a session, made again by `session`, have to answer and send the same. Adds `agrees`, where
 /// at least so many updates sent something, failed, and moved rows or characters. Where something does not agree, adds
-/// the number of the session, the answer of its last line, and all its lines.
+/// the number of the session, the answer of its last line, and a script of it for `screendemo --calls`.
 ///
-/// The lines `utf8_sessions` and `utf8_cut_sessions` do so on a screen in UTF-8.
-///
-/// The line `narrow_sessions` does so on a terminal without `xenl`, whose last column the screen leaves out. Nothing may
-/// reach it there.
-///
-/// The line `larger_sessions` does so on a terminal of one row and one column more than the screen. No update may move
-/// rows or characters there.
+/// The lines `utf8_sessions` and `utf8_cut_sessions` do so on a screen in UTF-8; `narrow_sessions` on a terminal
+/// without `xenl`, whose last column the screen leaves out, and nothing may reach; `larger_sessions` on one of one row
+/// and one column more than the screen, where no update may move rows or characters.
 ///
 /// The line `cut_sessions R C COUNT UPDATES SEED CUTS NAME ..`: the same, but that no update fails and nothing is
 /// written by others, and each update is cut as with `count_cuts`, which is at least so many cuts.
+///
+/// The line `session_script R C UPDATES SEED NAME ..`, or `utf8_session_script`: adds the script of such a session, in
+/// which others write nothing.
 pub fn check_sessions(
     opened: &mut Option<Recorded>,
     line: &mut CallLine<'_>,
 ) -> Result<(), Trouble> {
-    let opening = opening_of(line.name);
-    let is_narrow = line.name == "narrow_sessions";
+    let is_script = line.name.ends_with("session_script");
+    let (mut sessions, count, least) = read_sessions(line, is_script)?;
+    for number in 0..count {
+        if !sessions.check(opened)? {
+            add_word("session", &mut line.got);
+            add_number(i64::from(number), &mut line.got);
+            line.got.extend(sessions.answer.bytes());
+            sessions.add_script(line);
+            return Ok(());
+        }
+    }
+    if is_script {
+        sessions.add_script(line);
+    } else {
+        sessions.add_counts(least, &mut line.got);
+    }
+    Ok(())
+}
+
+// The sessions of a line, how many there are, and how many of each count there have to be. After this the call of the
+// line is what changes the entry.
+fn read_sessions<'a>(
+    line: &mut CallLine<'a>,
+    is_script: bool,
+) -> Result<(Sessions<'a>, u32, [u32; 4]), Trouble> {
     let (is_cut, words) = (line.name.ends_with("cut_sessions"), &mut line.words);
     let size = words.size()?;
-    let (count, updates, seed) = (words.number(), words.number(), words.number());
-    let least = if is_cut {
+    let count = if is_script { 1 } else { words.number() };
+    let (updates, seed) = (words.number(), words.number());
+    let least = if is_script {
+        [0; 4]
+    } else if is_cut {
         [0, 0, 0, words.number()]
     } else {
         [words.number(), words.number(), words.number(), 0]
     };
-    let names = *words;
-    words.skip();
-    words.done()?;
-    let mut sessions = Sessions {
+    let sessions = Sessions {
         alloc: line.alloc,
         size,
-        opening,
+        opening: opening_of(line.name),
         updates,
-        is_narrow,
+        names: *words,
+        is_narrow: line.name == "narrow_sessions",
         is_cut,
-        random: Random::new(seed),
+        has_others: !is_script,
+        wrote: false,
+        maker: Maker::new(line.alloc, seed),
         counts: [0; 4],
-        line: Buffer::new(line.alloc),
         answer: Buffer::new(line.alloc),
-        story: Buffer::new(line.alloc),
+        script: Buffer::new(line.alloc),
     };
-    for number in 0..count {
-        if !sessions.check(opened, names)? {
-            sessions.add_trouble(number, &mut line.got);
-            return Ok(());
-        }
+    if !line.words.is_at_end() {
+        line.rename();
     }
-    sessions.add_counts(least, &mut line.got);
-    Ok(())
+    line.words.skip();
+    line.words.done()?;
+    Ok((sessions, count, least))
 }
 
 /// How a line's screen is opened: in UTF-8 where the name begins with `utf8`, on a terminal that may be larger where it
@@ -136,13 +164,27 @@ fn has_moved(ops: &[Op]) -> bool {
     })
 }
 
-impl Sessions {
-    // Adds the session that does not agree, the answer of its last line, and all its lines.
-    fn add_trouble(&self, number: u32, got: &mut Buffer) {
-        add_word("session", got);
-        add_number(i64::from(number), got);
-        got.extend(self.answer.bytes());
-        add_text(self.story.bytes(), got);
+impl<'a> Sessions<'a> {
+    // Adds the script of this session, after a line that says how it is run and what it leaves out.
+    fn add_script(&self, line: &mut CallLine<'_>) {
+        let names = line.call();
+        let got = &mut line.got;
+        got.extend(match self.opening.charset {
+            Charset::Ascii => b"\nFor screendemo --calls",
+            Charset::Utf8 => b"\nFor screendemo -u --calls",
+        });
+        if !self.names.is_at_end() {
+            got.extend(b", without these changes of the entry: ");
+            got.extend(names);
+        }
+        if self.opening.is_larger {
+            got.extend(b", without the terminal's row and column more");
+        }
+        if self.wrote {
+            got.extend(b", without what others wrote on marked rows");
+        }
+        got.extend(b":\n");
+        got.extend(self.script.bytes());
     }
 
     // Adds `agrees`, or how many there are of each, where these are fewer than at least wanted.
@@ -159,30 +201,33 @@ impl Sessions {
     }
 
     // Checks a session on a screen of its own.
-    fn check(&mut self, opened: &mut Option<Recorded>, names: Words<'_>) -> Result<bool, Trouble> {
-        let mut names = names;
+    fn check(&mut self, opened: &mut Option<Recorded>) -> Result<bool, Trouble> {
+        let mut names = self.names;
         let mut entry = read_entry(self.alloc, &mut names).ok_or(Trouble::NoMemory)?;
         names.done()?;
-        let size = self.size_on(&mut entry)?;
+        let mut size = self.size;
+        if self.is_narrow {
+            let narrower = Size::new(size.rows, size.columns.saturating_sub(1));
+            size = match narrower {
+                Some(size) if entry.without_last_column() => size,
+                _ => return Err(Trouble::Bad("no column can be left out")),
+            };
+        }
         if Recorded::open_into(self.alloc, entry, size, self.opening, opened)?.is_some() {
             return Err(Trouble::NoMemory);
         }
-        self.story.clear();
+        self.script.clear();
+        let first = write!(
+            self.script.vector(),
+            "size {} {}\n",
+            size.rows,
+            size.columns
+        );
+        self.script.check(first.is_ok());
+        self.wrote = false;
         match opened {
             Some(opened) => self.check_opened(opened),
             None => Ok(false),
-        }
-    }
-
-    // The size of the screen, where the terminal's last column may be left out.
-    fn size_on(&self, entry: &mut Entry) -> Result<Size, Trouble> {
-        if !self.is_narrow {
-            return Ok(self.size);
-        }
-        let columns = self.size.columns.saturating_sub(1);
-        match Size::new(self.size.rows, columns) {
-            Some(size) if entry.without_last_column() => Ok(size),
-            _ => Err(Trouble::Bad("no column can be left out")),
         }
     }
 
@@ -191,7 +236,7 @@ impl Sessions {
             opened.enlarge(u32::from(self.opening.is_larger))?;
         }
         for line in &BEGIN {
-            self.line.extend(line.as_bytes());
+            self.maker.line.extend(line.as_bytes());
             self.make(opened)?;
         }
         for _ in 0..self.updates {
@@ -207,65 +252,57 @@ impl Sessions {
 
     // Makes the next calls and an update, which may fail or is cut in each way.
     fn check_update(&mut self, opened: &mut Recorded) -> Result<bool, Trouble> {
-        for _ in 0..=self.random.below(8) {
-            match self.opening.charset {
-                Charset::Ascii => add_line(
-                    self.alloc,
-                    &opened.screen,
-                    &mut self.random,
-                    &mut self.line,
-                ),
-                Charset::Utf8 => add_line_beyond(
-                    self.alloc,
-                    &opened.screen,
-                    &mut self.random,
-                    &mut self.line,
-                ),
-            }
+        for _ in 0..=self.maker.random.below(8) {
+            self.maker.add_call(&opened.screen, self.opening.charset);
             self.make(opened)?;
         }
-        if !self.is_cut && self.random.below(16) == 0 && opened.emulated.is_free() {
+        let is_marked = !self.is_cut && self.maker.random.below(16) == 0;
+        if is_marked && self.has_others && opened.emulated.is_free() {
             self.write_as_others(opened)?;
         }
-        add_taking(self.alloc, &opened.screen, &mut self.random, &mut self.line);
+        self.maker.add_taking(&opened.screen);
         self.make(opened)?;
         self.add_update();
         self.make(opened)?;
         let (is_ok, ops) = (self.answer.bytes().starts_with(b" Ok"), opened.last_begun());
         let is_sent = is_ok && !ops.is_empty();
-        self.count([
-            u32::from(is_sent),
-            u32::from(!is_ok),
-            u32::from(has_moved(ops)),
-            0,
-        ]);
+        let counts = [is_sent, !is_ok, has_moved(ops)];
+        for (count, is_one) in self.counts.iter_mut().zip(&counts) {
+            *count = count.saturating_add(u32::from(*is_one));
+        }
         Ok(opened.trouble.is_none() && (!self.is_cut || self.cut(opened)?))
     }
 
-    // Adds to the counts.
-    fn count(&mut self, more: [u32; 4]) {
-        for (count, more) in self.counts.iter_mut().zip(&more) {
-            *count = count.saturating_add(*more);
-        }
-    }
-
-    // Cuts the last update in each way, and tells whether all cuts agree; adds how many agree where not all do.
+    // Cuts the last update in each way, and tells whether all cuts agree; adds how many agree where not all do, and the
+    // next one to the script, in place of the update.
     fn cut(&mut self, opened: &mut Recorded) -> Result<bool, Trouble> {
         let (agreeing, all) = count_cuts(opened)?;
-        if agreeing < all {
-            add_word("cuts", &mut self.answer);
-            add_count(agreeing as u64, &mut self.answer);
+        let added = u32::try_from(agreeing).unwrap_or(0);
+        self.counts[3] = self.counts[3].saturating_add(added);
+        if agreeing == all {
+            return Ok(true);
         }
-        self.count([0, 0, 0, u32::try_from(agreeing).unwrap_or(0)]);
-        Ok(agreeing == all)
+        add_word("cuts", &mut self.answer);
+        add_count(agreeing as u64, &mut self.answer);
+        let script = self.script.vector();
+        script.truncate(script.len().saturating_sub(UPDATE.len()));
+        let written = match cut_of(opened.last_sent().len(), agreeing) {
+            (after, WriterFailure::Error) => write!(script, "update_writing {after}\n"),
+            (after, WriterFailure::Zero) => write!(script, "update_stuck {after}\n"),
+            (_, WriterFailure::Flush) => write!(script, "update_flushing\n"),
+        };
+        self.script.check(written.is_ok());
+        self.script.extend(UPDATE);
+        self.script.extend(UPDATE);
+        Ok(false)
     }
 
     // Marks a row, and has others write there, if it could be marked: an attribute where it can be turned off, and a
     // character.
     fn write_as_others(&mut self, opened: &mut Recorded) -> Result<(), Trouble> {
-        let row = self.random.below(self.size.rows);
-        let mark = write!(self.line.vector(), "redraw_lines 0 {row} 1");
-        self.line.check(mark.is_ok());
+        let row = self.maker.random.below(self.size.rows);
+        let mark = write!(self.maker.line.vector(), "redraw_lines 0 {row} 1");
+        self.maker.line.check(mark.is_ok());
         self.make(opened)?;
         if self.answer.bytes() != b" Ok".as_slice() {
             return Ok(());
@@ -276,9 +313,10 @@ impl Sessions {
             ""
         };
         let number = row.saturating_add(1);
-        let text = write!(self.line.vector(), "others \"\\e[{number}H{pen}?\"");
-        self.line.check(text.is_ok());
-        self.make(opened)
+        let text = write!(self.maker.line.vector(), "others \"\\e[{number}H{pen}?\"");
+        self.maker.line.check(text.is_ok());
+        self.wrote = true;
+        self.call(opened)
     }
 
     // Adds an update, which fails now and then, most often after a few bytes.
@@ -286,7 +324,7 @@ impl Sessions {
         let kind = if self.is_cut {
             9
         } else {
-            self.random.below(10)
+            self.maker.random.below(10)
         };
         let word = match kind {
             0..3 => "update_writing",
@@ -294,24 +332,37 @@ impl Sessions {
             4 => "update_flushing",
             _ => "update",
         };
-        add_word(word, &mut self.line);
+        self.maker.line.extend(word.as_bytes());
         if kind < 4 {
-            let most = if self.random.below(4) == 0 { 300 } else { 20 };
-            add_number(i64::from(self.random.below(most)), &mut self.line);
+            let most = if self.maker.random.below(4) == 0 {
+                300
+            } else {
+                20
+            };
+            add_number(
+                i64::from(self.maker.random.below(most)),
+                &mut self.maker.line,
+            );
         }
     }
 
-    // Makes the line.
+    // Makes the line, and adds it to the script.
     fn make(&mut self, opened: &mut Recorded) -> Result<(), Trouble> {
-        self.line.done()?;
-        self.story.extend(self.line.bytes());
-        self.story.push(b'\n');
+        self.script
+            .extend(self.maker.line.bytes().trim_ascii_start());
+        self.script.push(b'\n');
+        self.call(opened)
+    }
+
+    // Makes the line.
+    fn call(&mut self, opened: &mut Recorded) -> Result<(), Trouble> {
+        self.maker.line.done()?;
         let got = self.answer.take(self.alloc);
-        let mut line = CallLine::new(self.alloc, Words::new(self.line.bytes()), got);
+        let mut line = CallLine::new(self.alloc, Words::new(self.maker.line.bytes()), got);
         let obeyed = obey(opened, &mut line);
         let done = line.words.done();
         self.answer = line.got;
-        self.line.clear();
+        self.maker.line.clear();
         self.refuse_shortage()?;
         obeyed.and(done)
     }

@@ -2,9 +2,8 @@
 
 use check_harness::troubles::Trouble;
 use check_harness::words::Words;
-use screen_sessions::{Faulty, WriterFailure, WriterFault};
+use screen_sessions::{Faulty, WriterFault};
 use std::alloc::Global;
-use std::io::ErrorKind;
 
 // How many bytes a writer has room for: more than an update of a line sends.
 const ROOM: usize = 8192;
@@ -20,21 +19,15 @@ pub fn writer_that(alloc: Global, fails: Option<WriterFault>) -> Result<Faulty, 
     Ok(Faulty::with_faults(room, faults))
 }
 
-/// How the writer of a call fails, if it does, by what its name ends with: `_writing K` after K bytes, `_failing` at
-/// once, `_stuck K` by accepting nothing after K bytes, `_flushing` when it is flushed. `None` where the name ends with
-/// anything else.
+/// How the writer of a call fails, if it does, by what its name ends with (`WriterFault::named`), and by the number
+/// that follows where one has to. `None` where the name ends with anything else.
 pub fn read_fails(end: &str, words: &mut Words<'_>) -> Option<Option<WriterFault>> {
-    let (limit, failure, kind) = match end {
-        "" => return Some(None),
-        "_writing" => (words.number(), WriterFailure::Error, ErrorKind::BrokenPipe),
-        "_failing" => (0, WriterFailure::Error, ErrorKind::BrokenPipe),
-        "_stuck" => (words.number(), WriterFailure::Zero, ErrorKind::Other),
-        "_flushing" => (0, WriterFailure::Flush, ErrorKind::Other),
-        _ => return None,
-    };
-    Some(Some(WriterFault {
-        limit: limit as usize,
-        failure,
-        kind,
-    }))
+    if end.is_empty() {
+        return Some(None);
+    }
+    let (mut fault, has_limit) = WriterFault::named(end)?;
+    if has_limit {
+        fault.limit = words.number() as usize;
+    }
+    Some(Some(fault))
 }

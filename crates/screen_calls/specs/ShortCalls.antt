@@ -67,7 +67,16 @@ abbrev pub by_name : {C : Type 0} → Names C → List ℕ → List (List ℕ) �
 by_name [] name fields other = other
 by_name (row ∷ rows) name fields other = if bytes_eq name row.0 then row.1 fields else by_name rows name fields other
 
--- calls that set something, and the update; the first number is that of a window where it is called w, source or target
+-- calls that copy to the virtual screen, and the update; in all of these lists the first number is that of a window where
+-- it is called w, source or target
+abbrev pub refreshes : Names Call
+refreshes =
+    (codes "refresh", one_read number (λ w. Noutrefresh (window w)))
+    ∷ (codes "padrefresh", seven_numbers (λ w row column top left bottom right. PadNoutrefresh (window w) row column top left bottom right))
+    ∷ (codes "update", none_read Doupdate)
+    ∷ []
+
+-- calls that set something
 abbrev pub settings : Names Call
 settings =
     (codes "at", three_read number number number (λ w row column. MoveCursor (window w) row column))
@@ -75,9 +84,14 @@ settings =
     ∷ (codes "color", two_read number number (λ w pair. ColorSet (window w) pair))
     ∷ (codes "pair", three_read number colour colour (λ pair foreground background. SetPairOf pair foreground background))
     ∷ (codes "scrollok", two_read number setting (λ w is_on. ScrollOk (window w) is_on))
-    ∷ (codes "refresh", one_read number (λ w. Noutrefresh (window w)))
-    ∷ (codes "padrefresh", seven_numbers (λ w row column top left bottom right. PadNoutrefresh (window w) row column top left bottom right))
-    ∷ (codes "update", none_read Doupdate)
+    ∷ []
+
+-- calls that copy from window to window
+abbrev pub copies : Names Call
+copies =
+    (codes "copy", eight_numbers (λ source target row column top left bottom right. Copy (window source) (window target) row column top left bottom right false))
+    ∷ (codes "overlay", two_read number number (λ source target. Overlay (window source) (window target)))
+    ∷ (codes "overwrite", two_read number number (λ source target. Overwrite (window source) (window target)))
     ∷ []
 
 -- calls that change cells
@@ -89,34 +103,45 @@ changes =
     ∷ (codes "clear", one_read number (λ w. Clear (window w)))
     ∷ (codes "lines", one_read number (λ w. BorderOf (window w) BOX))
     ∷ (codes "scroll", two_read number integer (λ w n. Scroll (window w) n))
-    ∷ (codes "copy", eight_numbers (λ source target row column top left bottom right. Copy (window source) (window target) row column top left bottom right false))
-    ∷ (codes "overlay", two_read number number (λ source target. Overlay (window source) (window target)))
-    ∷ (codes "overwrite", two_read number number (λ source target. Overwrite (window source) (window target)))
     ∷ []
 
--- calls that make or delete windows, give them another size, or touch their lines
+-- calls that make subwindows, or give windows another size
+abbrev pub subwindows : Names Call
+subwindows =
+    (codes "sub", five_numbers (λ w rows columns row column. Sub (window w) rows columns row column))
+    ∷ (codes "derive", five_numbers (λ w rows columns row column. Derive (window w) rows columns row column))
+    ∷ (codes "subpad", five_numbers (λ w rows columns row column. SubPad (window w) rows columns row column))
+    ∷ (codes "resize", three_read number number number (λ w rows columns. ResizeWindow (window w) rows columns))
+    ∷ []
+
+-- calls that make or delete windows, or touch their lines
 abbrev pub windows : Names Call
 windows =
     (codes "win", four_numbers (λ rows columns row column. NewWindow rows columns row column))
     ∷ (codes "pad", two_read number number (λ rows columns. NewPad rows columns))
-    ∷ (codes "sub", five_numbers (λ w rows columns row column. Sub (window w) rows columns row column))
-    ∷ (codes "derive", five_numbers (λ w rows columns row column. Derive (window w) rows columns row column))
-    ∷ (codes "subpad", five_numbers (λ w rows columns row column. SubPad (window w) rows columns row column))
-    ∷ (codes "resize", three_read number number number (λ w rows columns. ResizeWindow (window w) rows columns))
     ∷ (codes "del", one_read number (λ w. Delete (window w)))
     ∷ (codes "touch", one_read number (λ w. TouchWindow (window w)))
     ∷ (codes "untouch", one_read number (λ w. Untouch (window w)))
     ∷ []
 
--- the call by a name with these fields, of each of the three kinds and those after it
+-- the call by a name with these fields, of each kind and those after it
+unfoldable pub refresh_call : List ℕ → List (List ℕ) → Option Call
+refresh_call name fields = by_name refreshes name fields None
+
 unfoldable pub setting_call : List ℕ → List (List ℕ) → Option Call
-setting_call name fields = by_name settings name fields None
+setting_call name fields = by_name settings name fields (refresh_call name fields)
+
+unfoldable pub copy_call : List ℕ → List (List ℕ) → Option Call
+copy_call name fields = by_name copies name fields (setting_call name fields)
 
 unfoldable pub change_call : List ℕ → List (List ℕ) → Option Call
-change_call name fields = by_name changes name fields (setting_call name fields)
+change_call name fields = by_name changes name fields (copy_call name fields)
+
+unfoldable pub subwindow_call : List ℕ → List (List ℕ) → Option Call
+subwindow_call name fields = by_name subwindows name fields (change_call name fields)
 
 unfoldable pub short_call : List ℕ → List (List ℕ) → Option Call
-short_call name fields = by_name windows name fields (change_call name fields)
+short_call name fields = by_name windows name fields (subwindow_call name fields)
 
 -- `put`: a window, and all that is behind the blank after its number is a text
 unfoldable pub text_call : Option (List ℕ) → Option Call

@@ -201,16 +201,17 @@ pub fn count_fault_of<'a>(text: Option<&'a [u8]>) -> Reason<'a> {
     Reason::WrongCount
 }
 
-fn push(bytes: &mut Vec<u8>, byte: u8) -> Result<(), NoMemory>
+/// Adds a byte. Fails only when memory runs out.
+pub(crate) fn push(bytes: &mut Vec<u8>, byte: u8) -> Result<(), NoMemory>
     ensures { OnOk result (bytes.new.items ≡ bytes.old.items ++ byte ∷ []) }
 {
     bytes.push(byte)?;
     Ok(())
 }
 
-// The byte spelled by two hexadecimal digits.
+/// The byte spelled by two hexadecimal digits.
 #[tactic(auto, unfolding(crate::specs::Fields::hexadecimal_byte))]
-fn hexadecimal_byte<'a>(field: &'a [u8]) -> Result<u8, Reason<'a>>
+pub(crate) fn hexadecimal_byte<'a>(field: &'a [u8]) -> Result<u8, Reason<'a>>
     ensures { read result ≡ hexadecimal_byte_of field.now }
 {
     let [high, low] = *field else {

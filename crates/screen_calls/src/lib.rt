@@ -5,8 +5,10 @@ mod call_faults;
 mod calls;
 mod cuts;
 mod fields;
+mod given;
 mod named_calls;
 mod parsing;
+mod quoted;
 mod reasons;
 mod short_calls;
 

@@ -30,6 +30,8 @@ pub enum Reason<'a> {
     NotCharacter(&'a [u8]),
     /// A byte is not spelled by two hexadecimal digits.
     NotHexadecimal(&'a [u8]),
+    /// A text is not in quotation marks, or has an escape that is none.
+    NotQuoted(&'a [u8]),
     /// A text of characters is not UTF-8.
     NotUtf8,
 }
@@ -41,7 +43,8 @@ impl<'a> Display for Reason<'a> {
             Reason::NotNumber(word)
             | Reason::NotSetting(word)
             | Reason::NotCharacter(word)
-            | Reason::NotHexadecimal(word) => show(self.words(), ": ", word, f),
+            | Reason::NotHexadecimal(word)
+            | Reason::NotQuoted(word) => show(self.words(), ": ", word, f),
             _ => f.write_str(self.words()),
         }
     }
@@ -61,6 +64,7 @@ impl<'a> Reason<'a> {
             Reason::EmptyWord => "a blank too many",
             Reason::OutOfRange => "number out of range",
             Reason::WrongSize => "size outside 1 to 500",
+            Reason::NotQuoted(_) => "not a text in quotation marks",
             Reason::NotUtf8 => "not UTF-8",
         }
     }

@@ -2,7 +2,7 @@
 ghost use Rattle.std.specs.Prelude.{◌≡◌, false, map};
 ghost use Rattle.screen_calls.specs.Fields.{colour as colour_of, graphic as graphic_of, integer as integer_of, number as number_of, setting as setting_of, up_to as up_to_of};
 ghost use Rattle.screen_calls.specs.Reading.{read};
-ghost use Rattle.screen_calls.specs.ShortCalls.{attributes, change_call, eight_numbers, five_numbers, four_numbers, one_read, plain_cell, setting_call, seven_numbers, short_call, three_read, two_read, window};
+ghost use Rattle.screen_calls.specs.ShortCalls.{attributes, change_call, copy_call, eight_numbers, five_numbers, four_numbers, one_read, plain_cell, refresh_call, setting_call, seven_numbers, short_call, subwindow_call, three_read, two_read, window};
 ghost use Rattle.screen_calls.specs.declared.calls.Call.TheVariants.{AddByte, AttrSet, ChangeBackground, Copy, Derive, PadNoutrefresh, ResizeWindow, Scroll, ScrollOk, SetPairOf, Sub, SubPad};
 
 use crate::calls::Call;
@@ -22,7 +22,23 @@ pub(crate) fn short_call<'a>(name: &'a [u8], fields: &[&'a [u8]]) -> Result<Call
     } else if name == b"pad".as_slice() {
         let (rows, columns) = two(fields)?;
         Ok(Call::NewPad(rows, columns))
-    } else if name == b"sub".as_slice() {
+    } else if name == b"del".as_slice() {
+        Ok(Call::Delete(Win(one(fields)?)))
+    } else if name == b"touch".as_slice() {
+        Ok(Call::TouchWindow(Win(one(fields)?)))
+    } else if name == b"untouch".as_slice() {
+        Ok(Call::Untouch(Win(one(fields)?)))
+    } else {
+        subwindow_call(name, fields)
+    }
+}
+
+// Calls that make subwindows or give windows another size, and those after them.
+#[tactic(auto, unfolding(crate::specs::ShortCalls::subwindow_call))]
+fn subwindow_call<'a>(name: &'a [u8], fields: &[&'a [u8]]) -> Result<Call, Reason<'a>>
+    ensures { read result ≡ subwindow_call name.now (map (λ field. field.now) fields.now) }
+{
+    if name == b"sub".as_slice() {
         sub(fields)
     } else if name == b"derive".as_slice() {
         derived(fields)
@@ -30,12 +46,6 @@ pub(crate) fn short_call<'a>(name: &'a [u8], fields: &[&'a [u8]]) -> Result<Call
         sub_pad(fields)
     } else if name == b"resize".as_slice() {
         resized(fields)
-    } else if name == b"del".as_slice() {
-        Ok(Call::Delete(Win(one(fields)?)))
-    } else if name == b"touch".as_slice() {
-        Ok(Call::TouchWindow(Win(one(fields)?)))
-    } else if name == b"untouch".as_slice() {
-        Ok(Call::Untouch(Win(one(fields)?)))
     } else {
         change_call(name, fields)
     }
@@ -58,7 +68,17 @@ fn change_call<'a>(name: &'a [u8], fields: &[&'a [u8]]) -> Result<Call, Reason<'
         Ok(Call::BorderOf(Win(one(fields)?), BOX))
     } else if name == b"scroll".as_slice() {
         moving(fields)
-    } else if name == b"copy".as_slice() {
+    } else {
+        copy_call(name, fields)
+    }
+}
+
+// Calls that copy from window to window, and those after them.
+#[tactic(auto, unfolding(crate::specs::ShortCalls::copy_call))]
+fn copy_call<'a>(name: &'a [u8], fields: &[&'a [u8]]) -> Result<Call, Reason<'a>>
+    ensures { read result ≡ copy_call name.now (map (λ field. field.now) fields.now) }
+{
+    if name == b"copy".as_slice() {
         copying(fields)
     } else if name == b"overlay".as_slice() {
         let (source, target) = two(fields)?;
@@ -71,7 +91,7 @@ fn change_call<'a>(name: &'a [u8], fields: &[&'a [u8]]) -> Result<Call, Reason<'
     }
 }
 
-// Calls that set something or copy to the virtual screen, and the update.
+// Calls that set something, and those after them.
 #[tactic(auto, unfolding(crate::specs::ShortCalls::setting_call))]
 fn setting_call<'a>(name: &'a [u8], fields: &[&'a [u8]]) -> Result<Call, Reason<'a>>
     ensures { read result ≡ setting_call name.now (map (λ field. field.now) fields.now) }
@@ -88,7 +108,17 @@ fn setting_call<'a>(name: &'a [u8], fields: &[&'a [u8]]) -> Result<Call, Reason<
         colours(fields)
     } else if name == b"scrollok".as_slice() {
         scrolling(fields)
-    } else if name == b"refresh".as_slice() {
+    } else {
+        refresh_call(name, fields)
+    }
+}
+
+// Calls that copy to the virtual screen, and the update.
+#[tactic(auto, unfolding(crate::specs::ShortCalls::refresh_call))]
+fn refresh_call<'a>(name: &'a [u8], fields: &[&'a [u8]]) -> Result<Call, Reason<'a>>
+    ensures { read result ≡ refresh_call name.now (map (λ field. field.now) fields.now) }
+{
+    if name == b"refresh".as_slice() {
         Ok(Call::Noutrefresh(Win(one(fields)?)))
     } else if name == b"padrefresh".as_slice() {
         taking(fields)
@@ -238,7 +268,7 @@ fn copying<'a>(fields: &[&'a [u8]]) -> Result<Call, Reason<'a>>
 }
 
 // One number.
-pub(crate) fn one<'a>(fields: &[&'a [u8]]) -> Result<u32, Reason<'a>>
+fn one<'a>(fields: &[&'a [u8]]) -> Result<u32, Reason<'a>>
     ensures { read result ≡ one_read number_of (λ n. n) (map (λ field. field.now) fields.now) }
 {
     let &[a] = fields else {
@@ -248,7 +278,7 @@ pub(crate) fn one<'a>(fields: &[&'a [u8]]) -> Result<u32, Reason<'a>>
 }
 
 // Two numbers.
-pub(crate) fn two<'a>(fields: &[&'a [u8]]) -> Result<(u32, u32), Reason<'a>>
+fn two<'a>(fields: &[&'a [u8]]) -> Result<(u32, u32), Reason<'a>>
     ensures { read result ≡ two_read number_of number_of (λ a b. (a, b)) (map (λ field. field.now) fields.now) }
 {
     let &[a, b] = fields else {
@@ -258,7 +288,7 @@ pub(crate) fn two<'a>(fields: &[&'a [u8]]) -> Result<(u32, u32), Reason<'a>>
 }
 
 // Three numbers.
-pub(crate) fn three<'a>(fields: &[&'a [u8]]) -> Result<(u32, u32, u32), Reason<'a>>
+fn three<'a>(fields: &[&'a [u8]]) -> Result<(u32, u32, u32), Reason<'a>>
     ensures { read result ≡ three_read number_of number_of number_of (λ a b c. (a, b, c)) (map (λ field. field.now) fields.now) }
 {
     let &[a, b, c] = fields else {
@@ -268,7 +298,7 @@ pub(crate) fn three<'a>(fields: &[&'a [u8]]) -> Result<(u32, u32, u32), Reason<'
 }
 
 // Four numbers.
-pub(crate) fn four<'a>(fields: &[&'a [u8]]) -> Result<(u32, u32, u32, u32), Reason<'a>>
+fn four<'a>(fields: &[&'a [u8]]) -> Result<(u32, u32, u32, u32), Reason<'a>>
     ensures { read result ≡ four_numbers (λ a b c d. (a, b, c, d)) (map (λ field. field.now) fields.now) }
 {
     let &[a, b, c, d] = fields else {
@@ -278,24 +308,30 @@ pub(crate) fn four<'a>(fields: &[&'a [u8]]) -> Result<(u32, u32, u32, u32), Reas
 }
 
 // Five numbers.
-pub(crate) fn five<'a>(fields: &[&'a [u8]]) -> Result<(u32, u32, u32, u32, u32), Reason<'a>>
+fn five<'a>(fields: &[&'a [u8]]) -> Result<(u32, u32, u32, u32, u32), Reason<'a>>
     ensures { read result ≡ five_numbers (λ a b c d e. (a, b, c, d, e)) (map (λ field. field.now) fields.now) }
 {
-    let &[a, b, c, d, e] = fields else {
+    let [first, rest @ ..] = fields else {
         return Err(count_fault(fields));
     };
-    Ok((number(a)?, number(b)?, number(c)?, number(d)?, number(e)?))
+    if rest.len() != 4 {
+        return Err(count_fault(fields));
+    }
+    let first = number(first)?;
+    let (b, c, d, e) = four(rest)?;
+    Ok((first, b, c, d, e))
 }
 
 // Seven numbers, of which the last four are corners.
-pub(crate) fn seven<'a>(
-    fields: &[&'a [u8]],
-) -> Result<(u32, u32, u32, (u32, u32, u32, u32)), Reason<'a>>
+fn seven<'a>(fields: &[&'a [u8]]) -> Result<(u32, u32, u32, (u32, u32, u32, u32)), Reason<'a>>
     ensures { read result ≡ seven_numbers (λ a b c d e f g. (a, b, c, (d, e, f, g))) (map (λ field. field.now) fields.now) }
 {
-    let &[a, b, c, d, e, f, g] = fields else {
+    let [a, b, c, corners @ ..] = fields else {
         return Err(count_fault(fields));
     };
+    if corners.len() != 4 {
+        return Err(count_fault(fields));
+    }
     let (a, b, c) = (number(a)?, number(b)?, number(c)?);
-    Ok((a, b, c, (number(d)?, number(e)?, number(f)?, number(g)?)))
+    Ok((a, b, c, four(corners)?))
 }

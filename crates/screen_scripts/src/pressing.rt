@@ -37,8 +37,12 @@ pub fn idle(alloc: Global, screen: &mut Screen) -> Result<Effects, NoMemory>
     Ok(effects)
 }
 
-// Gives bytes to a screen one by one, and notes what is refused.
-fn read_bytes(screen: &mut Screen, bytes: &[u8], notes: &mut Vec<Note>) -> Result<(), NoMemory>
+/// Gives bytes to a screen one by one, and notes what is refused. Fails only when memory runs out.
+pub(crate) fn read_bytes(
+    screen: &mut Screen,
+    bytes: &[u8],
+    notes: &mut Vec<Note>,
+) -> Result<(), NoMemory>
     ensures notes { OnOk result (events_in notes.new.items ≡ events_in notes.old.items ++ (after_bytes (stage_of screen.old) bytes.now).events) }
     ensures stage { OnOk result (stage_of screen.new ≡ (after_bytes (stage_of screen.old) bytes.now).stage) }
     ensures rest { OnOk result (screen.new ≡ record screen.old { keys = screen.new.keys }) }
@@ -50,8 +54,11 @@ fn read_bytes(screen: &mut Screen, bytes: &[u8], notes: &mut Vec<Note>) -> Resul
     Ok(())
 }
 
-// Notes what the reader of keys refused, if anything.
-fn note_refusal(read: Result<(), KeyFault>, notes: &mut Vec<Note>) -> Result<(), NoMemory>
+/// Notes what the reader of keys refused, if anything.
+pub(crate) fn note_refusal(
+    read: Result<(), KeyFault>,
+    notes: &mut Vec<Note>,
+) -> Result<(), NoMemory>
     ensures { OnOk result (events_in notes.new.items ≡ events_in notes.old.items ++ key_refusal read) }
 {
     if let Err(fault) = read {
@@ -60,8 +67,8 @@ fn note_refusal(read: Result<(), KeyFault>, notes: &mut Vec<Note>) -> Result<(),
     Ok(())
 }
 
-// Takes all keys, and notes them.
-fn take_keys(screen: &mut Screen, notes: &mut Vec<Note>) -> Result<(), NoMemory>
+/// Takes all keys, and notes them.
+pub(crate) fn take_keys(screen: &mut Screen, notes: &mut Vec<Note>) -> Result<(), NoMemory>
     ensures notes { OnOk result (events_in notes.new.items ≡ events_in notes.old.items ++ map Pressed screen.old.keys.queue) }
     ensures screen { OnOk result (screen.new ≡ record screen.old { keys = record screen.old.keys { queue = [] } }) }
 {

@@ -7,6 +7,7 @@ ghost use Rattle.screen_scripts.specs.Printing.{Begins, GrewByBeginning, Writes,
 ghost use Rattle.screen_scripts.specs.Showing.{AddsRefusals, CommandWrites, IsReady, IsReadyStage, LineWrites, stage_of, stages_of};
 ghost use Rattle.screen_scripts.specs.Running.{BeginsLine, CommandRefuses, LineWritten, OpensOn};
 
+use crate::call_runs::{Told, run_calls};
 use crate::commands::{Command, read_command};
 use crate::cuts::cut_line;
 use crate::line_faults::LineFault;
@@ -41,6 +42,8 @@ pub struct Output {
     pub charset: Charset,
     /// Whether the bytes that the terminal is sent are written, and not what it shows.
     pub is_raw: bool,
+    /// Whether lines may also be calls by the names of the screen's methods, and updates that fail (`parse_call_line`).
+    pub reads_calls: bool,
 }
 
 /// Runs a script on a terminal in ASCII. Writes the lines that the terminal shows at each update, and the refusals; or,
@@ -62,24 +65,38 @@ pub fn run<W: Write>(alloc: Global, script: &[u8], raw: bool, out: &mut W) -> Re
     let output = Output {
         charset: Charset::Ascii,
         is_raw: raw,
+        reads_calls: false,
     };
     run_as(alloc, script, output, out)
 }
 
 /// Like `run`, on a terminal with the charset of `output`, and raw if that says so.
+///
+/// If it says that lines may also be calls, a run goes on after an update that fails: that prints `failed`, its error,
+/// how many operations it began and how many bytes were accepted, and then what the terminal shows. What such a run
+/// writes is not proved.
 pub fn run_as<W: Write>(
     alloc: Global,
     script: &[u8],
     output: Output,
     out: &mut W,
 ) -> Result<(), DemoFault>
-    ensures whole { OnOk result ((story_of script.now).bad_line ≡ None) }
-    ensures written { OnOk result (Writes output.charset output.is_raw script.now (story_of script.now).events (W.contents out.old) (W.contents out.new)) }
-    ensures bad { (n : ℕ) → IsErrOf result (DemoFault.BadCommand n) → (story_of script.now).bad_line ≡ Some n }
-    ensures before_bad { (n : ℕ) → IsErrOf result (DemoFault.BadCommand n)
+    ensures whole { output.reads_calls ≡ false → OnOk result ((story_of script.now).bad_line ≡ None) }
+    ensures written { output.reads_calls ≡ false
+        → OnOk result (Writes output.charset output.is_raw script.now (story_of script.now).events (W.contents out.old) (W.contents out.new)) }
+    ensures bad { output.reads_calls ≡ false → (n : ℕ) → IsErrOf result (DemoFault.BadCommand n) → (story_of script.now).bad_line ≡ Some n }
+    ensures before_bad { output.reads_calls ≡ false → (n : ℕ) → IsErrOf result (DemoFault.BadCommand n)
         → Writes output.charset output.is_raw script.now (story_of script.now).events (W.contents out.old) (W.contents out.new) }
-    ensures beginning { Begins output.charset output.is_raw script.now (W.contents out.old) (W.contents out.new) }
+    ensures beginning { output.reads_calls ≡ false → Begins output.charset output.is_raw script.now (W.contents out.old) (W.contents out.new) }
 {
+    if output.reads_calls {
+        let told = if output.is_raw {
+            Told::Bytes
+        } else {
+            Told::Screens
+        };
+        return run_calls(alloc, script, output.charset, told, out);
+    }
     let mut stage = None;
     run_lines(alloc, script, output, &mut stage, out)
 }
@@ -92,6 +109,16 @@ pub fn refusals(alloc: Global, script: &[u8]) -> Result<Vec<u8>, NoMemory>
     let mut text = Vec::new(alloc);
     add_refusals(alloc, script, &mut text)?;
     Ok(text)
+}
+
+/// The same lines of a script of calls (`parse_call_line`), and one for each update that fails, on a terminal with this
+/// charset: what an update began depends on it. Fails only when memory runs out.
+pub fn call_refusals(alloc: Global, script: &[u8], charset: Charset) -> Result<Vec<u8>, NoMemory> {
+    let mut text = Vec::new(alloc);
+    match run_calls(alloc, script, charset, Told::Refusals, &mut text) {
+        Ok(()) | Err(DemoFault::BadCommand(_)) => Ok(text),
+        Err(_) => Err(NoMemory),
+    }
 }
 
 // Runs the lines of a script on a stage that its first line opens.
@@ -178,9 +205,9 @@ fn add_lines_refusals(
     Ok(())
 }
 
-// Writes a whole text. If a write fails or accepts nothing, what was accepted is a beginning of the
-// text.
-fn write_text<W: Write>(text: &[u8], out: &mut W) -> Result<(), DemoFault>
+/// Writes a whole text. If a write fails or accepts nothing, what was accepted is a beginning of the
+/// text.
+pub(crate) fn write_text<W: Write>(text: &[u8], out: &mut W) -> Result<(), DemoFault>
     ensures written { OnOk result (Appends (W.contents out.old) (W.contents out.new) text.now) }
     ensures beginning { GrewByBeginning (W.contents out.old) (W.contents out.new) text.now }
     ensures fault { (n : ℕ) → IsErrOf result (DemoFault.BadCommand n) → ⊥ }
@@ -196,8 +223,8 @@ fn write_text<W: Write>(text: &[u8], out: &mut W) -> Result<(), DemoFault>
     Ok(())
 }
 
-// Flushes the output.
-fn flush<W: Write>(out: &mut W) -> Result<(), DemoFault>
+/// Flushes the output.
+pub(crate) fn flush<W: Write>(out: &mut W) -> Result<(), DemoFault>
     ensures kept { Keeps (W.contents out.old) (W.contents out.new) }
     ensures fault { (n : ℕ) → IsErrOf result (DemoFault.BadCommand n) → ⊥ }
 {

@@ -31,6 +31,28 @@ pub struct WriterFault {
     pub kind: ErrorKind,
 }
 
+impl WriterFault {
+    /// The fault that the end of a call's name stands for, and whether the number of bytes is given that it accepts
+    /// before, 0 until then: `_writing` and a number, an error of kind `BrokenPipe`; `_failing`, the same at once;
+    /// `_stuck` and a number, a write that accepts nothing; `_flushing`, an error where it is flushed. `None` for any
+    /// other end.
+    pub fn named(end: &str) -> Option<(WriterFault, bool)> {
+        let (failure, kind, has_limit) = match end {
+            "_writing" => (WriterFailure::Error, ErrorKind::BrokenPipe, true),
+            "_failing" => (WriterFailure::Error, ErrorKind::BrokenPipe, false),
+            "_stuck" => (WriterFailure::Zero, ErrorKind::Other, true),
+            "_flushing" => (WriterFailure::Flush, ErrorKind::Other, false),
+            _ => return None,
+        };
+        let fault = WriterFault {
+            limit: 0,
+            failure,
+            kind,
+        };
+        Some((fault, has_limit))
+    }
+}
+
 /// A writer over memory for tests: it takes a number of bytes, then fails a number of times, and so on with each
 /// further fault, and then takes everything.
 ///

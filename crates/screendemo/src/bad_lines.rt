@@ -1,7 +1,7 @@
 //! Why a line of a script is a bad command: for what it says, or for where it stands.
 
 use scr_cells::Size;
-use screen_scripts::{Command, cut_line, parse_command};
+use screen_scripts::{Command, cut_line, parse_call_line, parse_command};
 use screen_sessions::{CallFault, Reason};
 use std::alloc::{AllocError, Global};
 use std::fmt;
@@ -23,12 +23,19 @@ impl<'a> Display for Wrong<'a> {
     }
 }
 
-/// Why the line with this number, counted from 1, is a bad command; `None` if it is none.
-pub fn reason_at(alloc: Global, script: &[u8], number: u32) -> Result<Option<String>, AllocError> {
+/// Why the line with this number, counted from 1, is a bad command, or no call either where lines may be calls; `None`
+/// if it is none.
+pub fn reason_at(
+    alloc: Global,
+    script: &[u8],
+    number: u32,
+    reads_calls: bool,
+) -> Result<Option<String>, AllocError> {
     let Some(line) = line_at(script, number) else {
         return Ok(None);
     };
-    match wrong_in(alloc, line, number == 1)? {
+    let reader = Reader { alloc, reads_calls };
+    match wrong_in(reader, line, number == 1)? {
         Some(wrong) => Ok(Some(format!(in alloc; "{wrong}")?)),
         None => Ok(None),
     }
@@ -48,16 +55,33 @@ fn line_at(script: &[u8], number: u32) -> Option<&[u8]> {
     Some(cut_line(rest).0)
 }
 
+// How lines are read: as commands alone, or also as calls.
+#[derive(Clone, Copy)]
+struct Reader {
+    alloc: Global,
+    reads_calls: bool,
+}
+
+impl Reader {
+    fn read<'a>(&self, line: &'a [u8]) -> Result<Command, CallFault<'a>> {
+        if self.reads_calls {
+            Ok(parse_call_line(self.alloc, line)?.command)
+        } else {
+            parse_command(self.alloc, line)
+        }
+    }
+}
+
 // What is wrong with a line, as it is read or for where it stands.
 fn wrong_in<'a>(
-    alloc: Global,
+    reader: Reader,
     line: &'a [u8],
     is_first: bool,
 ) -> Result<Option<Wrong<'a>>, AllocError> {
-    match parse_command(alloc, line) {
+    match reader.read(line) {
         Ok(command) => Ok(misplaced(&command, is_first)),
         Err(CallFault::NoMemory) => Err(AllocError),
-        Err(CallFault::Bad(reason)) => Ok(Some(unread(alloc, line, reason)?)),
+        Err(CallFault::Bad(reason)) => Ok(Some(unread(reader, line, reason)?)),
     }
 }
 
@@ -79,10 +103,10 @@ fn misplaced<'a>(command: &Command, is_first: bool) -> Option<Wrong<'a>> {
 }
 
 // What is wrong with a line that is not read: a carriage return at its end comes last.
-fn unread<'a>(alloc: Global, line: &'a [u8], reason: Reason<'a>) -> Result<Wrong<'a>, AllocError> {
+fn unread<'a>(reader: Reader, line: &'a [u8], reason: Reason<'a>) -> Result<Wrong<'a>, AllocError> {
     match line {
         [] | [b'\r'] => Ok(Wrong::Words(Reason::Empty)),
-        [before @ .., b'\r'] => match parse_command(alloc, before) {
+        [before @ .., b'\r'] => match reader.read(before) {
             Ok(_) => Ok(Wrong::Other("a carriage return at the end")),
             Err(CallFault::NoMemory) => Err(AllocError),
             Err(CallFault::Bad(reason)) => Ok(Wrong::Words(reason)),

@@ -1,8 +1,8 @@
 //! Runs a script that draws on a screen, and prints what a terminal shows of it. With `-r` it writes the terminal's
 //! bytes instead. With `-e` it explains the script's last update: each operation that is sent with the bytes of its
 //! text, and how many bytes these are, beside those of the joined repaint and of painting from scratch. With `--picture`
-//! it draws the last screen as an SVG. With `-u` the terminal speaks UTF-8. With `-v` it says why a line is not a
-//! command.
+//! it draws the last screen as an SVG. With `--calls` the lines of a file may also be calls by the names of the screen's
+//! methods, and updates that fail. With `-u` the terminal speaks UTF-8. With `-v` it says why a line is not a command.
 #![tactic(auto)]
 
 mod bad_lines;
@@ -20,16 +20,22 @@ use explaining::explanation;
 use failures::DemoFailure;
 use pictures::picture;
 use program_input::{InputFault, read_input};
-use scr_cells::Charset;
-pub use screen_scripts::{DemoFault, Output, refusals, run, run_as};
-use std::io;
+pub use screen_scripts::{DemoFault, Output, call_refusals, refusals, run, run_as};
 use std::io::Write;
 use std::process::ExitCode;
-use words::{DemoMode, asked};
+use std::{fs, io};
+use words::{DemoMode, Request, asked};
 
-// The script on the standard input.
-fn script(rt: &HostRuntime) -> Result<Vec<u8>, DemoFailure> {
-    match read_input(rt.alloc(), &mut rt.reader()) {
+// The script on the standard input, or in a file; `-` stands for the standard input there.
+fn script(rt: &HostRuntime, file: Option<&str>) -> Result<Vec<u8>, DemoFailure> {
+    let read = match file {
+        None | Some("-") => read_input(rt.alloc(), &mut rt.reader()),
+        Some(file) => match fs::open(rt, file) {
+            Ok(mut opened) => read_input(rt.alloc(), &mut opened),
+            Err(_) => Err(InputFault::Failed),
+        },
+    };
+    match read {
         Ok(script) => Ok(script),
         Err(InputFault::Failed) => Err(DemoFailure::Read),
         Err(InputFault::NoMemory) => Err(DemoFailure::NoMemory),
@@ -38,40 +44,45 @@ fn script(rt: &HostRuntime) -> Result<Vec<u8>, DemoFailure> {
 
 fn demonstrate(rt: &HostRuntime) -> Result<(), DemoFailure> {
     let asked = asked(rt)?;
-    let script = script(rt)?;
-    match perform(rt, asked.task, asked.charset, &script) {
+    perform_asked(rt, &asked)
+}
+
+// Reads the script, and does with it what is asked for.
+fn perform_asked(rt: &HostRuntime, asked: &Request) -> Result<(), DemoFailure> {
+    let script = script(rt, asked.calls.as_deref())?;
+    match perform(rt, asked, &script) {
         Err(DemoFailure::Demo(DemoFault::BadCommand(line))) if asked.is_verbose => {
-            Err(at_line(rt, &script, line))
+            Err(at_line(rt, &script, line, asked.calls.is_some()))
         }
         ended => ended,
     }
 }
 
 // The failure for a bad line, with the reason unless memory runs out for it.
-fn at_line(rt: &HostRuntime, script: &[u8], line: u32) -> DemoFailure {
+fn at_line(rt: &HostRuntime, script: &[u8], line: u32, reads_calls: bool) -> DemoFailure {
     let fault = DemoFault::BadCommand(line);
-    match reason_at(rt.alloc(), script, line) {
+    match reason_at(rt.alloc(), script, line, reads_calls) {
         Ok(Some(reason)) => DemoFailure::Line(fault, reason),
         Ok(None) | Err(_) => DemoFailure::Demo(fault),
     }
 }
 
-fn perform(
-    rt: &HostRuntime,
-    task: DemoMode,
-    charset: Charset,
-    script: &[u8],
-) -> Result<(), DemoFailure> {
-    let output = |is_raw| Output { charset, is_raw };
-    match task {
-        DemoMode::Print => draw(rt, output(false), script),
+fn perform(rt: &HostRuntime, asked: &Request, script: &[u8]) -> Result<(), DemoFailure> {
+    let (charset, reads_calls) = (asked.charset, asked.calls.is_some());
+    let output = Output {
+        charset,
+        is_raw: asked.task != DemoMode::Print,
+        reads_calls,
+    };
+    match asked.task {
+        DemoMode::Print => draw(rt, output, script),
         DemoMode::Send => {
-            let ended = draw(rt, output(true), script);
-            let told = tell_refusals(rt, script);
+            let ended = draw(rt, output, script);
+            let told = tell_refusals(rt, output, script);
             ended.and(told)
         }
         DemoMode::Explain => print(rt, explanation(rt.alloc(), charset, script)),
-        DemoMode::Picture => print(rt, picture(rt.alloc(), charset, script)),
+        DemoMode::Picture => print(rt, picture(rt.alloc(), output, script)),
     }
 }
 
@@ -81,8 +92,13 @@ fn draw(rt: &HostRuntime, output: Output, script: &[u8]) -> Result<(), DemoFailu
 }
 
 // Writes the lines of a script's refusals to standard error.
-fn tell_refusals(rt: &HostRuntime, script: &[u8]) -> Result<(), DemoFailure> {
-    let lines = refusals(rt.alloc(), script).map_err(|_| DemoFailure::NoMemory)?;
+fn tell_refusals(rt: &HostRuntime, output: Output, script: &[u8]) -> Result<(), DemoFailure> {
+    let lines = if output.reads_calls {
+        call_refusals(rt.alloc(), script, output.charset)
+    } else {
+        refusals(rt.alloc(), script)
+    };
+    let lines = lines.map_err(|_| DemoFailure::NoMemory)?;
     rt.stderr()
         .write_all(&lines)
         .map_err(|error| DemoFailure::Demo(DemoFault::Write(error.kind())))

@@ -39,20 +39,16 @@ struct Area {
 /// slanted, a dim one pale, and an invisible one left out. Each character says where it stands, so that the columns are
 /// kept whatever the font.
 ///
-/// Refused at a bad line of the script, or with `NoMemory`.
-pub fn picture(alloc: Global, charset: Charset, script: &[u8]) -> Result<Vec<u8>, DemoFault> {
+/// `output` is that of a raw run. Refused at a bad line of the script, or with `NoMemory`.
+pub fn picture(alloc: Global, output: Output, script: &[u8]) -> Result<Vec<u8>, DemoFault> {
     if script.is_empty() {
         return Ok(Vec::new(alloc));
     }
     let (line, _) = cut_line(script);
     let size = first_size(alloc, line)?;
     let mut bytes = Vec::new(alloc);
-    let output = Output {
-        charset,
-        is_raw: true,
-    };
     run_as(alloc, script, output, &mut bytes)?;
-    match shown(alloc, charset, size, &bytes) {
+    match shown(alloc, output.charset, size, &bytes) {
         Ok(terminal) => drawn(alloc, &terminal).map_err(|_| DemoFault::NoMemory),
         Err(_) => Err(DemoFault::NoMemory),
     }

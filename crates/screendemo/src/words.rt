@@ -26,10 +26,12 @@ pub enum DemoMode {
 }
 
 /// What the command line asks for.
-#[derive(Clone, Copy, PartialEq, Eq)]
+#[derive(Drop)]
 pub struct Request {
     /// What is done with the script.
     pub task: DemoMode,
+    /// The file of a script whose lines may also be calls; `None` for a script on the standard input.
+    pub calls: Option<String>,
     /// The terminal's charset.
     pub charset: Charset,
     /// Whether it is said why a line is not a command.
@@ -69,6 +71,7 @@ fn command<'a>(alloc: Global, version: &'a str) -> Result<Command<'a>, AllocErro
         .disable_version_flag(true);
     let command = tasks(alloc, command)?;
     command
+        .arg(calls(alloc)?)?
         .arg(utf8(alloc))?
         .arg(verbose(alloc))?
         .arg(version_wanted(alloc))
@@ -91,6 +94,16 @@ fn tasks<'a>(alloc: Global, command: Command<'a>) -> Result<Command<'a>, AllocEr
     let tasks = ArgGroup::new(alloc, "tasks");
     let tasks = tasks.arg("raw")?.arg("explain")?.arg("picture")?;
     command.arg(raw)?.arg(explain)?.arg(picture)?.group(tasks)
+}
+
+// What -e explains is not cut by writers that fail.
+fn calls<'a>(alloc: Global) -> Result<Arg<'a>, AllocError> {
+    Arg::new(alloc, "calls")
+        .long("calls")
+        .action(ArgAction::Set)
+        .value_name("FILE")
+        .help("Reads the script from FILE, where lines may also be calls by the names of methods")
+        .conflicts_with("explain")
 }
 
 fn utf8<'a>(alloc: Global) -> Arg<'a> {
@@ -133,11 +146,15 @@ fn asked_in(alloc: Global, version: &str, words: &[String]) -> Result<Request, c
     } else {
         Charset::Ascii
     };
-    let is_verbose = matches.get_flag("verbose");
+    let calls = match matches.get_str("calls") {
+        Some(file) => Some(file.to_string(alloc)?),
+        None => None,
+    };
     Ok(Request {
         task,
+        calls,
         charset,
-        is_verbose,
+        is_verbose: matches.get_flag("verbose"),
     })
 }
 
