@@ -1,5 +1,5 @@
 -- A list of operations that was tried is a plan, where all is known; and what is refused is none.
-use Rattle.std.proofs.Common.{◌≡◌, ℕ, zero, suc, ◌+◌, ◌*◌, ◌-◌, ◌<◌, ◌≤◌, ◌⊎◌, inl, inr, ◌&&◌, ◌||◌, not, Bool, true, false, refl, sym, ◌∙◌, ap, arith, subst, List, [], ◌∷◌, ◌++◌, drop, take, length, get_or, length-drop, Option, Some, None, IfSome, OnErr, Result, Ok, Err, option_and_then, if◌then◌else◌}
+use Rattle.std.proofs.Common.{◌≡◌, ℕ, zero, suc, ◌+◌, ◌*◌, ◌-◌, ◌<◌, ◌≤◌, ◌⊎◌, inl, inr, ◌&&◌, ◌||◌, not, Bool, true, false, refl, sym, ◌∙◌, ap, arith, subst, List, [], ◌∷◌, ◌++◌, drop, take, length, get_or, length-drop, Option, Some, None, IfSome, OnErr, OnOk, Result, Ok, Err, option_and_then, if◌then◌else◌}
 use Rattle.std.proofs.Math.Seq.{take-add}
 use Rattle.std.proofs.lemmas.List.{take_all}
 use Rattle.std.specs.Option.{is_some, unwrap_or}
@@ -21,8 +21,8 @@ use Rattle.scr_plan.proofs.RememberedPlanLaws.{agrees_itself, painted_at}
 use Rattle.scr_plan.proofs.ScratchLaws.{grid_is_painted}
 use Rattle.scr_plan.proofs.ShortPlanLaws.{not_nothing}
 use Rattle.scr_memory.specs.Spares.{HasTried, IsAllMarked, IsSpareOf, SpareView}
-use Rattle.scr_terminal.specs.Marks.{is_marked}
-use Rattle.scr_plan.specs.Checks.{IsUnlike, IsWholeBound, MissesSome, ShowsMarked, ShowsUnmarked}
+use Rattle.scr_terminal.specs.Marks.{AreNone, is_marked}
+use Rattle.scr_plan.specs.Checks.{IsAhead, IsUnlike, IsWholeBound, MissesSome, ShowsMarked, ShowsUnmarked}
 use Rattle.scr_plan.specs.Plans.{IsPlan, bound_of}
 use Rattle.scr_plan.specs.Scratch.{Fits, RunsToShow, look_at}
 
@@ -143,3 +143,32 @@ unlike_is_no_plan laws profile virtual k memory may bound whole ops spare run (i
 pub on_err : {A E : Type 0} {P : Type 0} (result : Result A E) → P → OnErr result P
 on_err (Ok value) p = tt
 on_err (Err error) p = p
+
+-- ---- a plan that is tried
+
+-- what is known to be defined was executed to its end
+ran : {A E : Type 0} (profile : ProfileView) (ops : List Op) (old new : TerminalState) (result : Result A E) → OnOk result (runs profile old ops ≡ Some new) → OnErr result (is_some (runs profile old ops) ≡ false)
+    → is_some (runs profile old ops) ≡ true → runs profile old ops ≡ Some new
+ran profile ops old new (Ok value) run none there = run
+ran profile ops old new (Err error) run none there = never (sym there ∙ none)
+  where
+    never : {P : Type 0} → true ≡ false → P
+    never e = (cc)
+
+pub is_ahead : {A E : Type 0} → MemoryRuns → (profile : ProfileView) (virtual : VirtualView) (memory : MemoryView) → MayBe (abilities profile) memory → (ops : List Op) → IsPlan profile memory virtual ops → (begun tried : SpareView) (result : Result A E)
+    → begun.memory ≡ memory → AreNone begun.marks → begun.marks.rows ≡ memory.rows → begun.marks.columns ≡ memory.columns → HasTried begun tried
+    → OnOk result (runs profile begun.memory.state ops ≡ Some tried.memory.state) → OnErr result (is_some (runs profile begun.memory.state ops) ≡ false) → IsAhead profile memory ops tried
+is_ahead laws profile virtual memory may ops plan begun tried result is none high wide has ok err =
+    let shown = plan_says profile virtual memory may ops plan in
+    let same : begun.memory.state ≡ memory.state = ap (λ (m : MemoryView). m.state) is in
+    let there : is_some (runs profile begun.memory.state ops) ≡ true = ap (λ state. is_some (runs profile state ops)) same ∙ ap is_some shown.run in
+    let run : runs profile memory.state ops ≡ Some tried.memory.state = ap (λ state. runs profile state ops) (sym same) ∙ ran profile ops begun.memory.state tried.memory.state result ok err there in
+    record {
+      of = record {
+        rows = has.rows ∙ ap (λ (m : MemoryView). m.rows) is;
+        columns = has.columns ∙ ap (λ (m : MemoryView). m.columns) is;
+        same = λ r c tall broad out. (has.marks r c (omega (arith, tall, has.high)) (omega (arith, broad, has.wide)) out).1 ∙ ap (λ (m : MemoryView). grid_at blank m.state.grid r c) is;
+      };
+      state = laws.state profile memory tried.memory.state ops run;
+      known = plan.known may;
+    }

@@ -10,7 +10,7 @@ use Rattle.scr_term.specs.Operations.Profiles.{ProfileView, abilities}
 use Rattle.scr_term.specs.Operations.Texts.{all_bytes, has}
 use Rattle.scr_terminal.specs.Marks.{MarksView, is_marked}
 use Rattle.scr_memory.specs.Memories.{MayBe, MemoryView, all_followed, is_known}
-use Rattle.scr_memory.specs.Spares.{IsSpareOf, SpareView, are_sure}
+use Rattle.scr_memory.specs.Spares.{IsReady, IsSpareOf, SpareView, are_sure}
 use Rattle.scr_virtual.specs.VirtualViews.{VirtualView}
 use Rattle.scr_plan.specs.Plans.{IsPlan, bound_of}
 use Rattle.scr_plan.specs.Scratch.{look_at, resets}
@@ -42,6 +42,10 @@ pub record IsAhead (profile : ProfileView) (memory : MemoryView) (ops : List Op)
   pub of : IsSpareOf memory spare
   pub state : (all_followed profile ops memory).state ≡ spare.memory.state
   pub known : is_known (all_followed profile ops memory) ≡ true
+
+-- The spare is ahead by these operations; or there are none, and it shows what is remembered.
+abbrev pub IsLed : ProfileView → MemoryView → List Op → SpareView → Type 0
+IsLed profile memory ops spare = IsAhead profile memory ops spare ⊎ ((ops ≡ []) × IsReady memory spare)
 
 -- What is remembered shows the picture in each place that is not marked.
 abbrev pub ShowsUnmarked : ProfileView → MemoryView → VirtualView → MarksView → Type 0

@@ -2,6 +2,7 @@
 #![tactic(auto)]
 
 mod blanks;
+mod checked_plans;
 mod checking;
 mod joined_changes;
 mod joined_rows;
@@ -31,6 +32,7 @@ mod unknown_rows;
 mod visiting;
 mod wiping;
 
+pub use checked_plans::plan_checked;
 pub use checking::{NotAPlan, check};
 pub use joined_changes::joined;
 pub use painting::scratch;

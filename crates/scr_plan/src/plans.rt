@@ -128,7 +128,7 @@ fn changes(alloc: Global, update: &Update<'_>) -> Result<Ops, NoMemory>
 }
 
 // Whether no row differs, and the cursor is where it is wanted.
-fn is_nothing_left(update: &Update<'_>, changes: &[RowChange]) -> bool
+pub(crate) fn is_nothing_left(update: &Update<'_>, changes: &[RowChange]) -> bool
     requires changes { AreChanges update.now.scene.profile.now update.now.wanted.now.picture update.now.memory.now changes.now update.now.wanted.now.picture.rows }
     ensures { result ≡ (is_none_left (differing update.now.scene.profile.now update.now.wanted.now.picture update.now.memory.now) && is_placed update.now.memory.now update.now.wanted.now.picture.wish) }
 {
@@ -168,7 +168,7 @@ fn paint_changes(alloc: Global, update: &Update<'_>, changes: &[RowChange]) -> R
 
 // The plan if not all is known, or the whole screen is to be painted anew.
 #[inline(never)]
-fn anew_or_partly(alloc: Global, update: &Update<'_>) -> Result<Ops, NoMemory>
+pub(crate) fn anew_or_partly(alloc: Global, update: &Update<'_>) -> Result<Ops, NoMemory>
     requires update { IsUpdate update.now }
     requires due { (is_known update.now.memory.now && not update.now.wanted.now.repaint) ≡ false }
     ensures { IfOk result (IsPlan update.now.scene.profile.now update.now.memory.now update.now.wanted.now) }
