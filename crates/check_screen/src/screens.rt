@@ -14,6 +14,7 @@ use generated_sessions::{
 };
 use scr_cells::Size;
 use scr_windows::Win;
+use screen_scripts::print_screen;
 use screen_sessions::{Call, session};
 use std::alloc::Global;
 use ti_caps::{Bytes, Entry};
@@ -30,6 +31,10 @@ pub fn answer_of_screen(subjects: &mut Subjects, line: &mut CallLine<'_>) -> Res
         | "cut_sessions"
         | "utf8_sessions"
         | "utf8_cut_sessions" => check_sessions(&mut subjects.made_up, line),
+        "session_script" | "utf8_session_script" => {
+            check_sessions(&mut subjects.made_up, line)?;
+            add_shown(&subjects.made_up, &mut line.got)
+        }
         "changed" => check_changed(line),
         "refusal" => add_refusal(line),
         _ => match &mut subjects.opened {
@@ -37,6 +42,17 @@ pub fn answer_of_screen(subjects: &mut Subjects, line: &mut CallLine<'_>) -> Res
             None => Err(Trouble::Bad("no screen")),
         },
     }
+}
+
+// Adds what the terminal of a made-up session shows, as `screendemo` prints it, if it reads bytes.
+fn add_shown(opened: &Option<Recorded>, got: &mut Buffer) -> Result<(), Trouble> {
+    if let Some(opened) = opened
+        && let Some(screen) = opened.emulated.screen()
+    {
+        got.extend(b"The terminal shows:\n");
+        print_screen(screen, got.vector())?;
+    }
+    Ok(())
 }
 
 // The line `screen R C NAME ..`, which opens a screen of so many rows and columns on the bundled entry without the
