@@ -1,10 +1,12 @@
 -- What a screen remembers of its terminal goes on to hold.
-use Rattle.std.proofs.Common.{◌≡◌, ℕ, sym, ◌∙◌, List}
+use Rattle.std.proofs.Common.{◌≡◌, ℕ, ap, refl, sym, ◌∙◌, List}
 use Rattle.scr_term.specs.declared.operations.operation.Op.{Op}
 use Rattle.scr_term.specs.Operations.Profiles.{ProfileView, IsProfile, abilities}
 use Rattle.scr_cells.specs.PictureViews.{IsPicture}
-use Rattle.scr_memory.specs.Memories.{MemoryLaws, MemoryView, all_followed, disturbed, forgotten, unknown}
-use Rattle.scr_memory.specs.MemoryRuns.{MemoryRuns}
+use Rattle.scr_memory.specs.Memories.{MayBe, MemoryLaws, MemoryView, all_followed, disturbed, forgotten, remembered, unknown}
+use Rattle.scr_memory.specs.MemoryRuns.{KnownMemories, MemoryRuns}
+use Rattle.scr_memory.specs.Spares.{IsReady, SpareView}
+use Rattle.scr_plan.specs.Checks.{IsAhead}
 use Rattle.scr_plan.specs.Plans.{IsPlan, UpToDateLaws}
 use Rattle.scr_plan.specs.Scratch.{Fits}
 use Rattle.scr_virtual.specs.Laws.{HoldsChanges}
@@ -44,6 +46,13 @@ remembers_nothing laws memories profile memory virtual is =
       same = laws.forgets profile memory virtual;
     }
 
+-- the spare is as before then
+pub ready_disturbed : (memory : MemoryView) (first n : ℕ) (spare : SpareView) → IsReady memory spare → IsReady (disturbed first n memory) spare
+ready_disturbed memory first n spare is = record { rows = is.rows; columns = is.columns; grid = is.grid; none = is.none }
+
+pub ready_forgotten : (memory : MemoryView) (spare : SpareView) → IsReady memory spare → IsReady (forgotten memory) spare
+ready_forgotten memory spare is = record { rows = is.rows; columns = is.columns; grid = is.grid; none = is.none }
+
 -- a plan was sent
 pub remembers_followed : UpToDateLaws → MemoryRuns → (profile : ProfileView) → IsProfile profile → (memory : MemoryView) (virtual : VirtualView) (ops : List Op) → IsPicture virtual.picture → IsRemembered profile memory virtual
     → IsPlan profile memory virtual ops → IsRemembered profile (all_followed profile ops memory) (settled virtual)
@@ -55,6 +64,17 @@ remembers_followed laws runs profile p memory virtual ops k is plan =
       possible = may;
       same = laws.follows profile memory virtual ops is.possible k plan;
     }
+
+-- a spare that is ahead by operations shows what is remembered after them
+pub followed_ahead : MemoryRuns → KnownMemories → (profile : ProfileView) → IsProfile profile → (memory : MemoryView) (ops : List Op) (spare : SpareView) → memory.rows ≡ profile.rows → memory.columns ≡ profile.columns
+    → MayBe (abilities profile) memory → IsAhead profile memory ops spare → all_followed profile ops memory ≡ remembered memory.rows memory.columns spare.memory.state
+followed_ahead runs known profile p memory ops spare rows columns may is =
+    let after = all_followed profile ops memory in
+    let later = runs.stays_possible profile p memory ops may in
+    let high = runs.rows profile memory ops in
+    let wide = runs.columns profile memory ops in
+    known.all (abilities profile) after later.state.whole after.state (record { is_state = later.state; high = later.high; rows = λ r h k. refl; spot = λ k. refl; pen = λ k. refl }) is.known (high ∙ rows) (wide ∙ columns)
+    ∙ ap (λ s. remembered profile.rows profile.columns s) is.state ∙ ap (λ r. remembered r profile.columns spare.memory.state) (sym rows) ∙ ap (λ c. remembered memory.rows c spare.memory.state) (sym columns)
 
 -- at first
 pub remembers_at_first : UpToDateLaws → MemoryRuns → (profile : ProfileView) → IsProfile profile → (virtual : VirtualView) → Fits profile virtual.picture

@@ -11,13 +11,14 @@ ghost use Rattle.ti_caps.specs.Adapted.{without_moves};
 ghost use Rattle.scr_windows.specs.DeskViews.{first_desk};
 ghost use Rattle.scr_virtual.specs.VirtualViews.{blank_virtual};
 ghost use Rattle.scr_memory.specs.Memories.{unknown};
+ghost use Rattle.scr_memory.specs.Spares.{IsReady};
 
 use crate::faults::OpenFault;
 use crate::screens::Screen;
 use crate::texts::texts_or_none;
 use scr_cells::{Charset, NoMemory, Size};
 use scr_keys::{KeyFault, KeyReader, KeySet, KeyTable};
-use scr_memory::{Memory, memory_runs};
+use scr_memory::{Memory, Spare, memory_runs};
 use scr_plan::up_to_date_laws;
 use scr_term::{Profile, ProfileFault, moves_refuse_nothing};
 use scr_virtual::Virtual;
@@ -151,6 +152,7 @@ impl Screen {
             wanted: blank.surfaces.wanted,
             profile,
             memory: blank.memory,
+            spare: blank.spare,
             owed: blank.owed,
             keys,
             opening: texts.opening,
@@ -190,6 +192,7 @@ struct Surfaces {
 struct Blank {
     surfaces: Surfaces,
     memory: Memory,
+    spare: Spare,
     owed: Vec<u8>,
 }
 
@@ -200,6 +203,7 @@ fn blank_on(alloc: Global, profile: &Profile, texts: &Texts) -> Result<Blank, No
     ensures desk { IfOk result (λ blank. blank.surfaces.desk ≡ first_desk profile.now.rows profile.now.columns) }
     ensures wanted { IfOk result (λ blank. blank.surfaces.wanted ≡ blank_virtual profile.now.rows profile.now.columns) }
     ensures memory { IfOk result (λ blank. blank.memory ≡ unknown profile.now.rows profile.now.columns) }
+    ensures ready { IfOk result (λ blank. IsReady blank.memory blank.spare) }
     ensures owed { IfOk result (λ blank. blank.owed.items ≡ []) }
     ensures room { IfOk result (λ blank. HasRoom profile.now (vec_capacity blank.owed)) }
     ensures text_room { IfOk result (λ blank. HasTextRoom texts.now.opening.items texts.now.closing.items (vec_capacity blank.owed)) }
@@ -207,10 +211,12 @@ fn blank_on(alloc: Global, profile: &Profile, texts: &Texts) -> Result<Blank, No
     let size = profile.size();
     let owed = buffer_for(alloc, profile, texts)?;
     let memory = Memory::unknown(alloc, size)?;
+    let spare = Spare::new(alloc, size)?;
     let surfaces = surfaces_of(alloc, size)?;
     Ok(Blank {
         surfaces,
         memory,
+        spare,
         owed,
     })
 }

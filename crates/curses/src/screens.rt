@@ -3,7 +3,7 @@
 //!
 //! The calls on its windows are in the files of their kinds in `calls/`.
 use scr_keys::KeyReader;
-use scr_memory::Memory;
+use scr_memory::{Memory, Spare};
 use scr_term::Profile;
 use scr_virtual::Virtual;
 use scr_windows::Desk;
@@ -23,6 +23,8 @@ pub struct Screen {
     pub(crate) profile: Profile,
     // What is known of what the terminal shows.
     pub(crate) memory: Memory,
+    // Where each plan is tried before it is sent. Between updates it shows what is remembered.
+    pub(crate) spare: Spare,
     // What has been begun and is still to be sent, with room for the text of each operation and for each of the two
     // texts below.
     pub(crate) owed: Vec<u8>,
@@ -38,6 +40,7 @@ impl Model for Screen {
     ghost use Rattle.scr_term.specs.contracts.operations.profiles.Profile as the_profile;
     ghost use Rattle.scr_windows.specs.contracts.desks.Desk as the_desk;
     ghost use Rattle.scr_memory.specs.contracts.memories.Memory as the_memory;
+    ghost use Rattle.scr_memory.specs.Spares.{IsReady};
     ghost use Rattle.scr_keys.specs.contracts.readers.KeyReader as the_reader;
     ghost use Rattle.curses.specs.ScreenStates.{ScreenState, HasRoom, HasTextRoom, IsScreen, screen_code};
 
@@ -47,7 +50,7 @@ impl Model for Screen {
 
     ghost view = { λ a. record { desk = a.desk; virtual = a.wanted; profile = a.profile; memory = a.memory; owed = a.owed.items; keys = a.keys; opening = a.opening.items; closing = a.closing.items } };
 
-    ghost invariant = { λ a. IsScreen (record { desk = a.desk; virtual = a.wanted; profile = a.profile; memory = a.memory; owed = a.owed.items; keys = a.keys; opening = a.opening.items; closing = a.closing.items }) × HasRoom a.profile (vec_capacity a.owed) × HasTextRoom a.opening.items a.closing.items (vec_capacity a.owed) };
+    ghost invariant = { λ a. IsScreen (record { desk = a.desk; virtual = a.wanted; profile = a.profile; memory = a.memory; owed = a.owed.items; keys = a.keys; opening = a.opening.items; closing = a.closing.items }) × HasRoom a.profile (vec_capacity a.owed) × HasTextRoom a.opening.items a.closing.items (vec_capacity a.owed) × IsReady a.memory a.spare };
 }
 
 /// The size of the screen and how many windows there are.

@@ -4,9 +4,11 @@ ghost use Rattle.std.specs.Prelude.{◌≡◌, ◌≢◌, ◌≤◌, ◌^◌, No
 ghost use Rattle.std.specs.Io.KnownBytes.{Keeps};
 ghost use Rattle.scr_term.specs.declared.operations.operation.Op.{Op};
 ghost use Rattle.scr_term.specs.Operations.Texts.{bytes_of};
-ghost use Rattle.scr_term.specs.Operations.Profiles.{IsProfile};
+ghost use Rattle.scr_term.specs.Operations.Profiles.{IsProfile, abilities};
 ghost use Rattle.scr_virtual.specs.VirtualViews.{settled};
-ghost use Rattle.scr_memory.specs.Memories.{all_followed, forgotten};
+ghost use Rattle.scr_memory.specs.Memories.{MayBe, all_followed, forgotten};
+ghost use Rattle.scr_memory.specs.Spares.{IsReady, IsSpareOf};
+ghost use Rattle.scr_plan.specs.Checks.{IsLed};
 ghost use Rattle.scr_plan.specs.Plans.{IsPlan};
 ghost use Rattle.curses.specs.ScreenStates.{IsRemembered};
 ghost use Rattle.curses.specs.Updates.{AfterFault, IsDefinedAnew, IsFailed, IsShown, IsUpdated, begun_before, memory_after};
@@ -17,8 +19,8 @@ use crate::screens::Screen;
 use crate::sending::send_all;
 use crate::writers::Counted;
 use scr_cells::NoMemory;
-use scr_memory::{Memory, memory_laws, memory_runs};
-use scr_plan::{plan_altered, up_to_date_laws};
+use scr_memory::{Memory, Spare, known_memories, memory_laws, memory_runs, spare_laws};
+use scr_plan::{plan_checked, up_to_date_laws};
 use scr_term::{Op, Ops, Profile, run_laws};
 use scr_virtual::Virtual;
 use std::alloc::Global;
@@ -58,37 +60,18 @@ impl Screen {
             &self.profile,
             &self.memory,
             &self.wanted,
+            &mut self.spare,
             &mut self.owed,
             out,
         );
-        self.remember(&sent);
+        remember(
+            &self.profile,
+            &sent,
+            &mut self.memory,
+            &mut self.wanted,
+            &mut self.spare,
+        );
         sent
-    }
-
-    // What is known of the terminal, and what is to be repainted, after an update that ended so.
-    fn remember(&mut self, sent: &Result<Sent, UpdateFault>)
-        requires { IfOk sent.now (λ sent. IsPlan self.old.profile self.old.memory self.old.virtual sent.begun) }
-        ensures ok { IfOk sent.now (λ sent. self.new ≡ record self.old { virtual = settled self.old.virtual; memory = all_followed self.old.profile sent.begun self.old.memory }) }
-        ensures err { IfErr sent.now (λ fault. self.new ≡ record self.old { memory = memory_after fault self.old.memory }) }
-    {
-        match sent {
-            Ok(sent) => self.follow(&sent.begun.0),
-            Err(UpdateFault::NoMemory) => {}
-            Err(_) => self.forget(),
-        }
-    }
-
-    // The terminal was sent a plan: it shows the picture.
-    fn follow(&mut self, ops: &[Op])
-        requires { IsPlan self.old.profile self.old.memory self.old.virtual ops.now }
-        ensures { self.new ≡ record self.old { virtual = settled self.old.virtual; memory = all_followed self.old.profile ops.now self.old.memory } }
-    {
-        memory_runs();
-        up_to_date_laws();
-        let _profile = self.profile.size();
-        let _wanted = self.wanted.size();
-        self.memory.follow_all(&self.profile, ops);
-        self.wanted.settle();
     }
 
     /// Forgets what is known of what the terminal shows, so the next update repaints everything: for a program that
@@ -103,6 +86,91 @@ impl Screen {
     }
 }
 
+// What is known of the terminal, and what is to be repainted, after an update that ended so.
+fn remember(
+    profile: &Profile,
+    sent: &Result<Sent, UpdateFault>,
+    memory: &mut Memory,
+    wanted: &mut Virtual,
+    spare: &mut Spare,
+)
+    requires remembered { IsRemembered profile.now memory.old wanted.old }
+    requires of { IsSpareOf memory.old spare.old }
+    requires plan { IfOk sent.now (λ sent. IsPlan profile.now memory.old wanted.old sent.begun) }
+    requires led { IfOk sent.now (λ sent. IsLed profile.now memory.old sent.begun spare.old) }
+    ensures remembered { IsRemembered profile.now memory.new wanted.new }
+    ensures ready { IsReady memory.new spare.new }
+    ensures followed { IfOk sent.now (λ sent. memory.new ≡ all_followed profile.now sent.begun memory.old) }
+    ensures settled { IfOk sent.now (λ _. wanted.new ≡ settled wanted.old) }
+    ensures lost { IfErr sent.now (λ fault. memory.new ≡ memory_after fault memory.old) }
+    ensures same { IfErr sent.now (λ _. wanted.new ≡ wanted.old) }
+{
+    match sent {
+        Ok(sent) => follow(profile, &sent.begun.0, memory, wanted, spare),
+        Err(UpdateFault::NoMemory) => spare.back(memory),
+        Err(_) => lose(profile, memory, wanted, spare),
+    }
+}
+
+// The terminal was sent a plan, which the spare is ahead by unless there is no operation: it shows the picture.
+fn follow(
+    profile: &Profile,
+    ops: &[Op],
+    memory: &mut Memory,
+    wanted: &mut Virtual,
+    spare: &mut Spare,
+)
+    requires remembered { IsRemembered profile.now memory.old wanted.old }
+    requires of { IsSpareOf memory.old spare.old }
+    requires plan { IsPlan profile.now memory.old wanted.old ops.now }
+    requires led { IsLed profile.now memory.old ops.now spare.old }
+    ensures remembered { IsRemembered profile.now memory.new wanted.new }
+    ensures ready { IsReady memory.new spare.new }
+    ensures followed { memory.new ≡ all_followed profile.now ops.now memory.old }
+    ensures settled { wanted.new ≡ settled wanted.old }
+{
+    memory_runs();
+    up_to_date_laws();
+    let _profile = profile.size();
+    let _wanted = wanted.size();
+    catch_up(profile, ops, memory, spare);
+    wanted.settle();
+}
+
+// Takes over what operations led to on the spare; nothing if there is none.
+fn catch_up(profile: &Profile, ops: &[Op], memory: &mut Memory, spare: &mut Spare)
+    requires rows { memory.old.rows ≡ profile.now.rows }
+    requires columns { memory.old.columns ≡ profile.now.columns }
+    requires possible { MayBe (abilities profile.now) memory.old }
+    requires of { IsSpareOf memory.old spare.old }
+    requires led { IsLed profile.now memory.old ops.now spare.old }
+    ensures ready { IsReady memory.new spare.new }
+    ensures followed { memory.new ≡ all_followed profile.now ops.now memory.old }
+{
+    memory_runs();
+    known_memories();
+    let _profile = profile.size();
+    if ops.is_empty() {
+        spare.back(memory);
+        return;
+    }
+    memory.take(spare);
+}
+
+// Nothing is known of the terminal any more.
+fn lose(profile: &Profile, memory: &mut Memory, wanted: &Virtual, spare: &mut Spare)
+    requires remembered { IsRemembered profile.now memory.old wanted.now }
+    requires of { IsSpareOf memory.old spare.old }
+    ensures remembered { IsRemembered profile.now memory.new wanted.now }
+    ensures ready { IsReady memory.new spare.new }
+    ensures lost { memory.new ≡ forgotten memory.old }
+{
+    memory_laws();
+    up_to_date_laws();
+    spare.back(memory);
+    memory.forget();
+}
+
 // Brings a terminal to a picture: sends what waits in the buffer, which has room for the text of each operation, and
 // then what is planned.
 pub(crate) fn update<W: Counted>(
@@ -110,19 +178,23 @@ pub(crate) fn update<W: Counted>(
     profile: &Profile,
     memory: &Memory,
     wanted: &Virtual,
+    spare: &mut Spare,
     waiting: &mut Vec<u8>,
     out: &mut W,
 ) -> Result<Sent, UpdateFault>
     requires remembered { IsRemembered profile.now memory.now wanted.now }
+    requires ready { IsReady memory.now spare.old }
     requires room { (op : Op) → length (bytes_of profile.now op) ≤ vec_capacity waiting.old }
     ensures ok { IfOk result (λ sent. IsUpdated profile.now memory.now wanted.now waiting.old.items (W.told out.old) (W.told out.new) sent.begun sent.bytes waiting.new.items) }
     ensures err { IfErr result (λ fault. AfterFault profile.now memory.now wanted.now waiting.old.items (W.told out.old) (W.told out.new) fault waiting.new.items) }
     ensures anew { IfErr result (λ fault. IsDefinedAnew profile.now wanted.now (begun_before fault)) }
     ensures room { vec_capacity waiting.old ≤ vec_capacity waiting.new }
     ensures untouched { IsErrOf result UpdateFault.NoMemory → out.new ≡ out.old }
+    ensures led { IfOk result (λ sent. IsLed profile.now memory.now sent.begun spare.new) }
+    ensures of { IsSpareOf memory.now spare.new }
 {
     run_laws();
-    let mut plan = planned(alloc, profile, memory, wanted)?;
+    let mut plan = planned(alloc, profile, memory, wanted, spare)?;
     let sent = send_all(profile, &plan.0, waiting, out);
     plan.0.truncate(sent.begun);
     if let Some(kind) = sent.fault {
@@ -145,21 +217,27 @@ pub(crate) fn update<W: Counted>(
     })
 }
 
-// The operations that show the picture from every state of a terminal that agrees with what is remembered.
+// The operations that show the picture from every state of a terminal that agrees with what is remembered. The spare is
+// ahead by them.
 fn planned(
     alloc: Global,
     profile: &Profile,
     memory: &Memory,
     wanted: &Virtual,
+    spare: &mut Spare,
 ) -> Result<Ops, NoMemory>
-    requires { IsRemembered profile.now memory.now wanted.now }
+    requires remembered { IsRemembered profile.now memory.now wanted.now }
+    requires ready { IsReady memory.now spare.old }
     ensures plan { IfOk result (IsPlan profile.now memory.now wanted.now) }
     ensures few { IfOk result (λ ops. length ops ≤ 2 ^ 32) }
     ensures profile { IsProfile profile.now }
+    ensures led { IfOk result (λ ops. IsLed profile.now memory.now ops spare.new) }
+    ensures of { IsSpareOf memory.now spare.new }
 {
+    spare_laws();
     let _profile = profile.size();
     let _wanted = wanted.size();
-    plan_altered(alloc, profile, memory, wanted)
+    plan_checked(alloc, profile, memory, wanted, spare)
 }
 
 // Flushes the writer if something was sent, and gives the kind of the error if that failed.

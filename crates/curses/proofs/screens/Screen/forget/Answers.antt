@@ -1,6 +1,7 @@
 use Rattle.std.proofs.Common.{subst, sym}
+use Rattle.scr_memory.specs.Spares.{IsReady}
 use Rattle.curses.specs.ScreenStates.{IsRemembered}
-use Rattle.curses.proofs.RememberedLaws.{remembers_nothing}
+use Rattle.curses.proofs.RememberedLaws.{ready_forgotten, remembers_nothing}
 use Rattle.curses.proofs.screens.Screen.forget.Goals as goal
 
 pub invariant_of-self : goal.invariant_of-self
@@ -13,4 +14,5 @@ invariant_of-self c = (
   },
   c.self.invariant.1,
   c.self.invariant.2,
+  subst (λ memory. IsReady memory c.self.inside.spare) (sym c.forget.ensures) (ready_forgotten c.self.inside.memory c.self.inside.spare c.self.invariant.3),
 )

@@ -15,4 +15,5 @@ invariant_of-result c =
       },
       c.in_ok-blank.ensures.room,
       c.in_ok-blank.ensures.text_room,
+      c.in_ok-blank.ensures.ready,
     )

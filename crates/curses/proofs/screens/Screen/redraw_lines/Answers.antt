@@ -1,7 +1,8 @@
 use Rattle.std.proofs.Common.{ap, subst, sym, ◌∙◌, rules}
 use Rattle.scr_virtual.specs.Laws.{HoldsChanges}
+use Rattle.scr_memory.specs.Spares.{IsReady}
 use Rattle.curses.specs.ScreenStates.{IsRemembered}
-use Rattle.curses.proofs.RememberedLaws.{remembers_disturbed, remembers_held}
+use Rattle.curses.proofs.RememberedLaws.{ready_disturbed, remembers_disturbed, remembers_held}
 use Rattle.curses.proofs.screens.Screen.redraw_lines.Goals as goal
 
 pub invariant_of-self : goal.invariant_of-self
@@ -18,6 +19,7 @@ invariant_of-self c =
       },
       c.self.invariant.1,
       c.self.invariant.2,
+      subst (λ memory. IsReady memory c.self.inside.spare) (sym c.disturb.ensures) (ready_disturbed c.self.inside.memory _ _ c.self.inside.spare c.self.invariant.3),
     )
 
 pub returns : goal.returns
