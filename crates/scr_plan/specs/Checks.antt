@@ -1,5 +1,5 @@
 -- What a check of operations lets through before they are sent. curs_refresh(3X), doupdate().
-use Rattle.std.specs.Prelude.{ℕ, ◌≡◌, ◌<◌, ◌≤◌, ◌-◌, ◌^◌, ◌⊎◌, ◌++◌, true, false, List, [], ◌∷◌, All, IfSome, length}
+use Rattle.std.specs.Prelude.{ℕ, ◌≡◌, ◌<◌, ◌≤◌, ◌-◌, ◌^◌, ◌⊎◌, ◌++◌, Bool, true, false, List, [], ◌∷◌, All, IfSome, length}
 use Rattle.scr_cells.specs.Grids.{grid_at}
 use Rattle.scr_cells.specs.LookViews.{blank}
 use Rattle.scr_cells.specs.PictureViews.{PictureView}
@@ -63,6 +63,10 @@ ShowsMarked profile spare picture = (r : ℕ) → r < picture.rows → ShowsMark
 abbrev pub MissesSome : ProfileView → SpareView → PictureView → Type 0
 MissesSome profile spare picture =
     (r : ℕ) × (c : ℕ) × (r < picture.rows) × (c < picture.columns) × (grid_at blank spare.memory.state.grid r c ≡ look_at profile picture (r, c) → ⊥)
+
+-- If the operations are counted, they have no more bytes than the bound, if the terminal has them all.
+abbrev pub IsWithin : ProfileView → List Op → ℕ → Bool → Type 0
+IsWithin profile ops bound counted = counted ≡ true → All (λ op. has profile op ≡ true) ops → length (all_bytes profile ops) ≤ bound
 
 -- What was tried shows the picture in marked places, with the cursor where it is wanted, and the operations have no more
 -- bytes than a bound, if the terminal has them all.

@@ -18,6 +18,7 @@ use crate::plan_laws::{joined_is_cheap, plans_are_made};
 use crate::plans::{anew_or_partly, is_nothing_left, wants_changes_alone};
 use crate::scenes::{Scene, Update};
 use crate::short_plan::short_changes;
+use crate::strokes::Draft;
 use scr_cells::{Look, NoMemory, grid_laws};
 use scr_memory::{Memory, Spare, known_memories, memory_runs, spare_laws};
 use scr_prices::RowChange;
@@ -116,8 +117,11 @@ fn paint_checked(
     let _wanted = update.wanted.size();
     let draft = short_changes(alloc, update, changes)?;
     let (bytes, ops) = bytes_of_joined(update, changes, draft.ops, draft.bytes)?;
-    if update.check(spare, &ops, bytes).is_ok() {
-        return Ok(Ops(ops));
+    let draft = Draft { ops, ..draft };
+    if draft.is_worth(bytes, update.wanted.size())
+        && update.check(spare, &draft.ops, bytes, true).is_ok()
+    {
+        return Ok(Ops(draft.ops));
     }
     joined_led(alloc, update, changes, spare)
 }

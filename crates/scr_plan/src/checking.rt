@@ -15,7 +15,7 @@ ghost use Rattle.scr_virtual.specs.Ranges.{in_range};
 ghost use Rattle.scr_plan.specs.Code.Planning.{range_by};
 ghost use Rattle.scr_memory.specs.Memories.{all_followed, clears, is_known, is_placed};
 ghost use Rattle.scr_memory.specs.Spares.{HasTried, IsAllMarked, IsReady, IsSpare, IsSpareOf, are_sure, is_reset};
-ghost use Rattle.scr_plan.specs.Checks.{BeginsAnew, IsAhead, IsAlike, IsNoSurePlan, IsUnlike, MissesSome, ShowsMarked, ShowsMarkedIn, ShowsUnmarked};
+ghost use Rattle.scr_plan.specs.Checks.{BeginsAnew, IsAhead, IsAlike, IsNoSurePlan, IsUnlike, IsWithin, MissesSome, ShowsMarked, ShowsMarkedIn, ShowsUnmarked};
 ghost use Rattle.scr_plan.specs.Code.Scenes.{IsScene, IsUpdate};
 ghost use Rattle.scr_plan.specs.Plans.{IsPlan, bound_of};
 ghost use Rattle.scr_plan.specs.Repaints.{IsSizeOf, IsUpToDate};
@@ -93,21 +93,29 @@ pub fn check(
         wanted,
         by: Looked::Altered,
     };
-    update.check(spare, ops, bound)
+    update.check(spare, ops, bound, false)
 }
 
 impl Update<'_> {
-    // Checks that operations are a plan; leaves the spare ahead by them, or as it was.
-    pub(crate) fn check(&self, spare: &mut Spare, ops: &[Op], bound: usize) -> Result<(), NotAPlan>
+    // Checks that operations are a plan; leaves the spare ahead by them, or as it was. If they are counted, their bytes
+    // are known to be within the bound.
+    pub(crate) fn check(
+        &self,
+        spare: &mut Spare,
+        ops: &[Op],
+        bound: usize,
+        is_counted: bool,
+    ) -> Result<(), NotAPlan>
         requires update { IsUpdate self.now }
         requires ready { IsReady self.now.memory.now spare.old }
+        requires counted { IsWithin self.now.scene.profile.now ops.now bound is_counted }
         requires bound { bound ≤ length (all_bytes self.now.scene.profile.now (bound_of self.now.scene.profile.now self.now.memory.now self.now.wanted.now)) }
         ensures plan { OnOk result (IsPlan self.now.scene.profile.now self.now.memory.now self.now.wanted.now ops.now) }
         ensures ahead { OnOk result (IsAhead self.now.scene.profile.now self.now.memory.now ops.now spare.new) }
         ensures back { OnErr result (IsReady self.now.memory.now spare.new) }
         ensures exact { OnErr result (IsNoSurePlan self.now.scene.profile.now self.now.memory.now self.now.wanted.now bound ops.now) }
     {
-        let checked = self.try_on(spare, ops, bound);
+        let checked = self.try_on(spare, ops, bound, is_counted);
         if checked.is_err() {
             spare.back(self.memory);
         }
@@ -115,9 +123,16 @@ impl Update<'_> {
     }
 
     // Tries operations on the spare, and tells whether they are a plan.
-    fn try_on(&self, spare: &mut Spare, ops: &[Op], bound: usize) -> Result<(), NotAPlan>
+    fn try_on(
+        &self,
+        spare: &mut Spare,
+        ops: &[Op],
+        bound: usize,
+        is_counted: bool,
+    ) -> Result<(), NotAPlan>
         requires update { IsUpdate self.now }
         requires ready { IsReady self.now.memory.now spare.old }
+        requires counted { IsWithin self.now.scene.profile.now ops.now bound is_counted }
         requires bound { bound ≤ length (all_bytes self.now.scene.profile.now (bound_of self.now.scene.profile.now self.now.memory.now self.now.wanted.now)) }
         ensures plan { OnOk result (IsPlan self.now.scene.profile.now self.now.memory.now self.now.wanted.now ops.now) }
         ensures ahead { OnOk result (IsAhead self.now.scene.profile.now self.now.memory.now ops.now spare.new) }
@@ -136,7 +151,7 @@ impl Update<'_> {
         }
         spare.begin(self.memory);
         if wants_changes_alone(self.memory, self.wanted) {
-            return self.check_changes(spare, ops, bound);
+            return self.check_changes(spare, ops, bound, is_counted);
         }
         if begins_anew(self.scene.profile, ops) {
             return self.check_anew(spare, ops, bound);
@@ -149,8 +164,15 @@ impl Update<'_> {
 
     // Where all is known: the operations are executed, and the columns that are looked at are compared, and what the
     // operations changed.
-    fn check_changes(&self, spare: &mut Spare, ops: &[Op], bound: usize) -> Result<(), NotAPlan>
+    fn check_changes(
+        &self,
+        spare: &mut Spare,
+        ops: &[Op],
+        bound: usize,
+        is_counted: bool,
+    ) -> Result<(), NotAPlan>
         requires update { IsUpdate self.now }
+        requires counted { IsWithin self.now.scene.profile.now ops.now bound is_counted }
         requires known { is_known self.now.memory.now ≡ true }
         requires calm { self.now.wanted.now.repaint ≡ false }
         requires pen { IsShownPen (abilities self.now.scene.profile.now) self.now.memory.now.state.pen }
@@ -174,7 +196,7 @@ impl Update<'_> {
         let _marked = spare.memory().size();
         run(self.scene.profile, spare, ops)?;
         let _spare = spare.memory().size();
-        self.scene.compare(spare, ops, bound)?;
+        self.scene.compare(spare, ops, bound, is_counted)?;
         Ok(())
     }
 }
@@ -206,7 +228,7 @@ impl Update<'_> {
         let _marked = spare.memory().size();
         run(self.scene.profile, spare, ops)?;
         let _spare = spare.memory().size();
-        self.scene.compare(spare, ops, bound)?;
+        self.scene.compare(spare, ops, bound, false)?;
         Ok(())
     }
 
@@ -238,7 +260,7 @@ impl Update<'_> {
         if !spare.memory().known() {
             return Err(NotAPlan::Unsure);
         }
-        self.scene.compare(spare, ops, bound)?;
+        self.scene.compare(spare, ops, bound, false)?;
         Ok(())
     }
 }
@@ -285,12 +307,14 @@ fn is_few(ops: &[Op], size: Size) -> bool
     ops.len() <= size.rows as usize * size.columns as usize * 12 + 4
 }
 
-// Whether operations have no more bytes than a bound, where the terminal has them all.
-fn is_within(profile: &Profile, ops: &[Op], bound: usize) -> bool
+// Whether operations have no more bytes than a bound, where the terminal has them all; they are counted unless that was
+// done before.
+fn is_within(profile: &Profile, ops: &[Op], bound: usize, is_counted: bool) -> bool
+    requires counted { IsWithin profile.now ops.now bound is_counted }
     ensures yes { result ≡ true → All (λ op. has profile.now op ≡ true) ops.now → length (all_bytes profile.now ops.now) ≤ bound }
     ensures no { result ≡ false → bound < 2 ^ 64 - 1 → All (λ op. has profile.now op ≡ true) ops.now → length (all_bytes profile.now ops.now) ≤ bound → ⊥ }
 {
-    bound < usize::MAX && price_of(profile, ops) <= bound
+    is_counted || bound < usize::MAX && price_of(profile, ops) <= bound
 }
 
 // Whether operations begin by turning attributes off, where the terminal can, and clearing the screen.
@@ -385,14 +409,21 @@ impl Update<'_> {
 
 impl Scene<'_> {
     // Compares what was tried with the picture, in marked places and for the cursor, and the bytes with the bound.
-    fn compare(&self, spare: &Spare, ops: &[Op], bound: usize) -> Result<(), NotAPlan>
+    fn compare(
+        &self,
+        spare: &Spare,
+        ops: &[Op],
+        bound: usize,
+        is_counted: bool,
+    ) -> Result<(), NotAPlan>
         requires scene { IsScene self.now }
+        requires counted { IsWithin self.now.profile.now ops.now bound is_counted }
         requires rows { spare.now.memory.rows ≡ self.now.picture.now.rows }
         requires columns { spare.now.memory.columns ≡ self.now.picture.now.columns }
         ensures alike { OnOk result (IsAlike self.now.profile.now self.now.picture.now bound ops.now spare.now) }
         ensures unlike { OnErr result (IsUnlike self.now.profile.now self.now.picture.now bound ops.now spare.now) }
     {
-        if !is_within(self.profile, ops, bound) {
+        if !is_within(self.profile, ops, bound, is_counted) {
             return Err(NotAPlan::Dear);
         }
         if !self.is_shown_by(spare) {
