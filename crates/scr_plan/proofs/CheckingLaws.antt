@@ -1,28 +1,25 @@
 -- A list of operations that was tried is a plan, where all is known; and what is refused is none.
-use Rattle.std.proofs.Common.{◌≡◌, ℕ, zero, suc, ◌+◌, ◌*◌, ◌-◌, ◌<◌, ◌≤◌, ◌⊎◌, inl, inr, ◌&&◌, ◌||◌, not, Bool, true, false, refl, sym, ◌∙◌, ap, arith, subst, List, [], ◌∷◌, ◌++◌, drop, take, length, get_or, length-drop, Option, Some, None, IfSome, OnErr, OnOk, Result, Ok, Err, option_and_then, if◌then◌else◌}
-use Rattle.std.proofs.Math.Seq.{take-add}
-use Rattle.std.proofs.lemmas.List.{take_all}
-use Rattle.std.specs.Option.{is_some, unwrap_or}
+use Rattle.std.proofs.Common.{◌≡◌, ℕ, ◌+◌, ◌*◌, ◌<◌, ◌≤◌, inl, inr, ◌&&◌, not, Bool, true, false, refl, sym, ◌∙◌, ap, arith, subst, List, length, Some, IfSome, OnErr, OnOk, Result, Ok, Err}
+use Rattle.std.specs.Option.{is_some}
 use Rattle.scr_cells.specs.Grids.{GridLaws, IsGrid, grid_at}
 use Rattle.scr_cells.specs.LookViews.{LookView, blank}
 use Rattle.scr_cells.specs.PictureViews.{IsPicture, PictureView}
 use Rattle.scr_virtual.specs.VirtualViews.{VirtualView}
 use Rattle.scr_term.specs.declared.operations.operation.Op.{Op}
-use Rattle.scr_term.specs.declared.operations.operation.Op.TheVariants.{Home}
 use Rattle.scr_term.specs.declared.operations.operation.Spot.TheVariants.{At}
 use Rattle.scr_term.specs.Operations.Laws.{RunLaws}
 use Rattle.scr_term.specs.Operations.Profiles.{ProfileView, IsProfile, abilities}
 use Rattle.scr_term.specs.Operations.States.{TerminalState, IsState}
-use Rattle.scr_term.specs.Operations.Steps.{runs, step}
+use Rattle.scr_term.specs.Operations.Steps.{runs}
 use Rattle.scr_term.specs.Operations.Texts.{all_bytes}
-use Rattle.scr_memory.specs.Memories.{Agrees, MayBe, MemoryView, all_followed, is_known, is_nothing_known}
+use Rattle.scr_memory.specs.Memories.{MayBe, MemoryView, is_known}
 use Rattle.scr_memory.specs.MemoryRuns.{KnownMemories, MemoryRuns}
 use Rattle.scr_plan.proofs.RememberedPlanLaws.{agrees_itself, painted_at}
 use Rattle.scr_plan.proofs.ScratchLaws.{grid_is_painted}
 use Rattle.scr_plan.proofs.ShortPlanLaws.{not_nothing}
 use Rattle.scr_memory.specs.Spares.{HasTried, IsAllMarked, IsSpareOf, SpareView}
 use Rattle.scr_terminal.specs.Marks.{AreNone, is_marked}
-use Rattle.scr_plan.specs.Checks.{IsAhead, IsUnlike, IsWholeBound, MissesSome, ShowsMarked, ShowsUnmarked}
+use Rattle.scr_plan.specs.Checks.{IsAhead, IsUnlike, IsWholeBound, ShowsMarked, ShowsUnmarked}
 use Rattle.scr_plan.specs.Plans.{IsPlan, bound_of}
 use Rattle.scr_plan.specs.Scratch.{Fits, RunsToShow, look_at}
 

@@ -1,28 +1,25 @@
 -- Operations that need only what is known are a plan where they show the picture; and so are those that clear the screen first.
-use Rattle.std.proofs.Common.{◌≡◌, ℕ, zero, suc, ◌+◌, ◌*◌, ◌-◌, ◌<◌, ◌≤◌, ◌&&◌, ◌||◌, not, nat_le, nat_lt, Bool, true, false, refl, sym, ◌∙◌, ap, arith, subst, append_assoc, List, [], ◌∷◌, ◌++◌, drop, take, length, get_or, length-drop, Option, Some, None, IfSome, option_and_then, if◌then◌else◌}
+use Rattle.std.proofs.Common.{◌≡◌, ℕ, ◌+◌, ◌*◌, ◌<◌, ◌≤◌, ◌&&◌, ◌||◌, not, Bool, true, false, refl, sym, ◌∙◌, ap, arith, subst, append_assoc, List, [], ◌∷◌, ◌++◌, length, get_or, Some, IfSome, if◌then◌else◌}
 use Rattle.std.specs.Option.{is_some}
 use Rattle.scr_cells.specs.Grids.{GridLaws, IsGrid, grid_at}
 use Rattle.scr_cells.specs.LookViews.{LookView, blank}
-use Rattle.scr_cells.specs.PenViews.{PenView, is_plain_pen, plain_pen}
 use Rattle.scr_cells.specs.PictureViews.{IsPicture}
 use Rattle.scr_virtual.specs.VirtualViews.{VirtualView}
 use Rattle.scr_term.specs.declared.operations.operation.Op.{Op}
 use Rattle.scr_term.specs.declared.operations.operation.Op.TheVariants.{Home, Clear, Reset}
-use Rattle.scr_term.specs.declared.operations.operation.Spot.{Spot}
-use Rattle.scr_term.specs.declared.operations.operation.Spot.TheVariants.{At, Margin}
+use Rattle.scr_term.specs.declared.operations.operation.Spot.TheVariants.{At}
 use Rattle.scr_term.specs.Operations.Laws.{ProfilesHave, RunLaws}
 use Rattle.scr_term.specs.Operations.Profiles.{ProfileView, IsProfile, abilities, is_there}
 use Rattle.scr_term.specs.Operations.States.{TerminalState, IsState, blank_state}
-use Rattle.scr_term.specs.Operations.Steps.{act, runs, step}
-use Rattle.scr_term.specs.Operations.Texts.{all_bytes, has}
-use Rattle.scr_memory.specs.Memories.{Agrees, MayBe, MemoryView, all_followed, clears, followed, is_in_place, has_one_pen, is_known, is_nothing_known, is_placed, places_spot}
+use Rattle.scr_term.specs.Operations.Steps.{runs, step}
+use Rattle.scr_term.specs.Operations.Texts.{all_bytes}
+use Rattle.scr_memory.specs.Memories.{Agrees, MayBe, MemoryView, all_followed, clears, followed, has_one_pen, is_known, is_nothing_known, places_spot}
 use Rattle.scr_term.specs.Operations.Painted.{Shows}
 use Rattle.scr_plan.proofs.ScratchLaws.{cleared_run, grid_is_painted}
 use Rattle.scr_plan.proofs.ShortPlanLaws.{begins_with}
 use Rattle.scr_term.specs.declared.operations.capability.Capability.TheVariants.{Sgr0}
 use Rattle.scr_plan.specs.Plans.{Begins, IsPlan, PlansAreRemembered, bound_of}
-use Rattle.scr_plan.specs.Scratch.{Fits, RunsToShow, look_at, resets}
-use Rattle.std.proofs.lemmas.Bool.Decides.{nat_tests}
+use Rattle.scr_plan.specs.Scratch.{Fits, look_at, resets}
 use Rattle.scr_memory.specs.MemoryRuns.{KnownMemories, MemoryRuns}
 use Rattle.scr_memory.specs.Spares.{SpareLaws, are_sure, is_reset, is_sure, needs_no_reset}
 use Rattle.scr_plan.specs.Checks.{BeginsAnew}

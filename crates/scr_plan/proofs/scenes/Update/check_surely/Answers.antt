@@ -1,18 +1,15 @@
-use Rattle.std.proofs.Common.{ap, arith, subst, sym, true, ℕ, IfSome, Some, ◌≡◌, ◌∙◌}
+use Rattle.std.proofs.Common.{ap, arith, subst, sym, true, IfSome, Some, ◌≡◌, ◌∙◌}
 use Rattle.scr_cells.specs.Grids.{IsGrid}
 use Rattle.scr_cells.specs.PictureViews.{PictureView}
-use Rattle.scr_memory.specs.Memories.{MayBe, MemoryView, all_followed, is_known, is_placed}
-use Rattle.scr_memory.specs.Spares.{IsAllMarked, IsSpareOf, are_sure}
+use Rattle.scr_memory.specs.Memories.{MayBe, MemoryView, all_followed, is_known}
+use Rattle.scr_memory.specs.Spares.{are_sure}
 use Rattle.scr_term.specs.declared.operations.operation.Spot.TheVariants.{At}
 use Rattle.scr_term.specs.Operations.Profiles.{abilities}
-use Rattle.scr_term.specs.Operations.States.{TerminalState}
-use Rattle.scr_term.specs.Operations.Steps.{runs}
 use Rattle.scr_plan.proofs.CheckingLaws.{all_compared, marked_is_of, on_err, unlike_is_no_plan}
 use Rattle.scr_plan.proofs.RememberedPlanLaws.{agrees_itself}
 use Rattle.scr_plan.proofs.ShortPlanLaws.{state_of}
 use Rattle.scr_plan.proofs.SureLaws.{sure_plan}
 use Rattle.scr_plan.specs.Checks.{IsNoSurePlan, IsUnlike, ShowsMarked}
-use Rattle.scr_plan.specs.Plans.{IsPlan}
 use Rattle.scr_plan.proofs.scenes.Update.check_surely.Goals as goal
 
 pub returns-clause-plan : goal.returns-clause-plan

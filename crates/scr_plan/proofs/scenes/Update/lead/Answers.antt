@@ -1,4 +1,4 @@
-use Rattle.std.proofs.Common.{ap, false, ℕ, ◌≡◌, ◌∙◌}
+use Rattle.std.proofs.Common.{ap, ◌∙◌}
 use Rattle.scr_memory.specs.Memories.{MayBe, MemoryView}
 use Rattle.scr_term.specs.Operations.Profiles.{abilities}
 use Rattle.scr_terminal.specs.Marks.{is_marked}
