@@ -1,5 +1,5 @@
 -- Operations that need only what is known are defined from every state that agrees.
-use Rattle.std.proofs.Common.{◌≡◌, ◌&&◌, ◌||◌, not, Bool, true, false, refl, sym, ◌∙◌, ap, List, [], ◌∷◌, Option, Some, None, option_and_then}
+use Rattle.std.proofs.Common.{◌≡◌, ◌&&◌, ◌||◌, Bool, true, false, refl, sym, ◌∙◌, ap, List, [], ◌∷◌, Option, Some, None, option_and_then}
 use Rattle.std.specs.Option.{is_some}
 use Rattle.scr_cells.specs.Grids.{grid_at}
 use Rattle.scr_cells.specs.LookViews.{blank}
@@ -11,7 +11,7 @@ use Rattle.scr_term.specs.Operations.States.{TerminalState}
 use Rattle.scr_term.specs.Operations.Steps.{runs, step}
 use Rattle.scr_memory.proofs.FollowLaws.{both, one_pen}
 use Rattle.scr_memory.specs.MemoryRuns.{MemoryRuns}
-use Rattle.scr_memory.specs.Memories.{Agrees, MayBe, MemoryView, all_followed, followed, has_one_pen, places_spot}
+use Rattle.scr_memory.specs.Memories.{Agrees, MayBe, MemoryView, followed, has_one_pen, places_spot}
 use Rattle.scr_memory.specs.Spares.{SpareLaws, are_sure, is_reset, is_sure, needs_no_reset}
 
 -- what places the cursor does not depend on where it was, nor Reset on anything

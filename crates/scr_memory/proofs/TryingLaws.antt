@@ -1,21 +1,20 @@
 -- Operations that are tried on a spare, some at a time.
-use Rattle.std.proofs.Common.{◌≡◌, ℕ, zero, suc, ◌+◌, ◌-◌, ◌<◌, ◌≤◌, ◌&&◌, ◌||◌, Bool, true, false, refl, sym, ◌∙◌, ap, arith, subst, List, [], ◌∷◌, ◌++◌, drop, take, length, get_or, length-drop, Option, Some, None, OnErr, Result, Ok, Err, option_and_then}
+use Rattle.std.proofs.Common.{◌≡◌, ℕ, zero, suc, ◌+◌, ◌-◌, ◌<◌, ◌&&◌, Bool, true, false, refl, sym, ◌∙◌, ap, arith, subst, List, [], ◌∷◌, ◌++◌, drop, take, length, get_or, length-drop, Option, Some, None, OnErr, Result, Ok, Err, option_and_then}
 use Rattle.std.proofs.Math.Seq.{take-add}
 use Rattle.std.proofs.lemmas.List.{take_all}
 use Rattle.std.specs.List.{list_all}
 use Rattle.std.specs.Option.{is_some, unwrap_or}
 use Rattle.scr_term.specs.declared.operations.operation.Op.{Op}
-use Rattle.scr_term.specs.declared.operations.operation.Op.TheVariants.{Home, Put}
+use Rattle.scr_term.specs.declared.operations.operation.Op.TheVariants.{Home}
 use Rattle.scr_term.specs.Operations.Laws.{RunLaws}
 use Rattle.scr_term.specs.Operations.Profiles.{ProfileView}
 use Rattle.scr_term.specs.Operations.States.{TerminalState}
 use Rattle.scr_term.specs.Operations.Steps.{runs, step}
 use Rattle.scr_terminal.specs.Characters.{is_character_op}
-use Rattle.scr_terminal.specs.Marks.{HasMarked, MarksView}
 use Rattle.scr_memory.proofs.FollowLaws.{both}
 use Rattle.scr_memory.proofs.FollowingLaws.{one_character}
-use Rattle.scr_memory.proofs.MemoryRunLaws.{all_joined, goes_on, same_some}
-use Rattle.scr_memory.specs.Memories.{MemoryView, all_followed, followed, has_one_pen, places_spot}
+use Rattle.scr_memory.proofs.MemoryRunLaws.{goes_on}
+use Rattle.scr_memory.specs.Memories.{MemoryView, all_followed, followed}
 use Rattle.scr_memory.specs.Spares.{HasTried, SpareView, are_sure, is_sure}
 
 -- ---- a run of some operations

@@ -9,13 +9,12 @@ use Rattle.ti_caps.specs.Adapted as adapted
 use Rattle.ti_caps.specs.Description.{Description, text_at}
 use Rattle.ti_param.specs.Parsed.{parsed}
 use Rattle.ti_param.specs.Stripped.{stripped}
-use Rattle.ti_param.specs.Tree.{Tree}
 use Rattle.scr_term.specs.declared.operations.capability.Capability.{Capability}
 use Rattle.scr_term.specs.declared.operations.capability.Capability.TheVariants as capability
 use Rattle.scr_term.specs.declared.operations.operation.Op.{Op}
 use Rattle.scr_term.specs.declared.operations.operation.Op.TheVariants.{DeleteChars, DeleteLines, InsertChars, InsertLines, ScrollDown, ScrollUp}
 use Rattle.scr_term.specs.declared.operations.profile_faults.ProfileFault.TheVariants.{BadString, LongString, Missing}
-use Rattle.scr_term.specs.Operations.Admission.{IsAdmittedAs, IsEquipped, IsSuitable, admitted, admitted_on, bad_fault, first_some, first_where, is_over_bound, is_spoiled, is_unreadable, long_fault, margin_fault, missing_fault, named_text, refusal, screen_size, size_fault, some_text, spare_program, unsuitable_fault, used_program}
+use Rattle.scr_term.specs.Operations.Admission.{admitted, admitted_on, bad_fault, first_some, first_where, is_over_bound, is_spoiled, is_unreadable, long_fault, margin_fault, missing_fault, named_text, refusal, screen_size, size_fault, some_text, spare_program, unsuitable_fault, used_program}
 use Rattle.scr_term.specs.Operations.Capabilities.{each_capability, slot_of}
 use Rattle.scr_term.specs.Operations.Larger.{MovesNothing, MovesRefuseNothing, is_moving}
 use Rattle.scr_term.specs.Operations.Profiles.{ProfileView, is_there}

@@ -1,9 +1,9 @@
 -- Which places of a grid a change leaves as they are.
-use Rattle.std.proofs.Common.{◌≡◌, ◌∙◌, ℕ, zero, suc, ◌+◌, ◌-◌, ◌<◌, ◌≤◌, ◌&&◌, ◌||◌, Bool, true, false, List, [], length, take, drop, length-take, length-drop, slice_index_or, slice_range, min, nat_eq, nat_lt, ◌⊎◌, inl, inr, All, if◌then◌else◌, leb, ltb, refl, ap, sym, subst, arith, Some}
+use Rattle.std.proofs.Common.{◌≡◌, ◌∙◌, ℕ, ◌+◌, ◌-◌, ◌<◌, ◌≤◌, ◌&&◌, Bool, true, false, List, [], length, drop, length-take, length-drop, slice_index_or, slice_range, min, nat_eq, nat_lt, ◌⊎◌, inl, inr, All, if◌then◌else◌, leb, ltb, refl, ap, sym, subst, arith, Some}
 use Rattle.std.proofs.lemmas.List.{get_or-drop, get_or-take}
 use Rattle.std.proofs.lemmas.List.Elements.{All-drop, All-get_or, All-take}
 use Rattle.std.proofs.lemmas.Bool.Decides.{nat_tests}
-use Rattle.scr_cells.specs.Grids.{GridLaws, IsGrid, grid_at, grid_filled, grid_of, grid_row, grid_with_run, is_in_run, places_left, places_right, rows_down, rows_up}
+use Rattle.scr_cells.specs.Grids.{GridLaws, IsGrid, grid_at, grid_row, grid_with_run, is_in_run, places_left, places_right, rows_down, rows_up}
 use Rattle.scr_cells.specs.LookViews.{IsLook, LookView, blank}
 use Rattle.scr_term.specs.declared.operations.operation.Op.{Op}
 use Rattle.scr_term.specs.declared.operations.operation.Spot.{Spot}

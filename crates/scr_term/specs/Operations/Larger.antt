@@ -1,7 +1,7 @@
 -- A terminal that may be larger than the screen: nothing is inserted, deleted or scrolled there, since that would bring in
 -- lines and columns from beyond the screen, and the screen's last line is not the one at which the terminal scrolls.
 -- terminfo(5), 'Insert/Delete Line', 'Insert/Delete Character'.
-use Rattle.std.specs.Prelude.{ℕ, ◌≡◌, Bool, true, false, Option}
+use Rattle.std.specs.Prelude.{◌≡◌, Bool, true, false, Option}
 use Rattle.scr_cells.specs.declared.charsets.Charset.{Charset}
 use Rattle.scr_cells.specs.declared.sizes.Size.{Size}
 use Rattle.ti_caps.specs.Adapted.{without_moves}

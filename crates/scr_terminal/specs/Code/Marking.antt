@@ -1,5 +1,5 @@
 -- Which places a change of an emulated terminal may change.
-use Rattle.std.specs.Prelude.{ℕ, ◌≡◌, ◌<◌, ◌&&◌, leb, ltb, if◌then◌else◌, Bool, true, false}
+use Rattle.std.specs.Prelude.{ℕ, ◌≡◌, ◌<◌, ◌&&◌, leb, ltb, if◌then◌else◌, Bool, false}
 use Rattle.scr_cells.specs.Grids.{grid_at, is_in_run}
 use Rattle.scr_cells.specs.LookViews.{blank}
 use Rattle.scr_terminal.specs.Terminals.{TerminalView}

@@ -1,8 +1,8 @@
-use Rattle.std.proofs.Common.{ap, arith, refl, sym, subst, take, true, false, ◌≡◌, ◌∙◌}
+use Rattle.std.proofs.Common.{ap, arith, sym, subst, take, true, false, ◌≡◌, ◌∙◌}
 use Rattle.std.proofs.lemmas.Bool.Decides.{nat_tests}
 use Rattle.scr_memory.proofs.FollowingLaws.{same_columns, same_rows}
 use Rattle.scr_memory.proofs.TryingLaws.{none_followed, one_followed, one_sure, one_unsure}
-use Rattle.scr_memory.specs.Memories.{MemoryView, all_followed}
+use Rattle.scr_memory.specs.Memories.{all_followed}
 use Rattle.scr_memory.specs.Spares.{are_sure}
 use Rattle.scr_memory.proofs.memories.Memory.follow_sure.Goals as goal
 

@@ -1,4 +1,4 @@
-use Rattle.std.proofs.Common.{arith, ◌∙◌, length, drop, length-drop, length-take}
+use Rattle.std.proofs.Common.{arith, ◌∙◌}
 use Rattle.scr_memory.proofs.FollowingLaws.{followed_on}
 use Rattle.scr_memory.proofs.TryingLaws.{on_err, sure_on, unsure_on}
 use Rattle.scr_memory.proofs.memories.Memory.follow_surely.Goals as goal

@@ -2,7 +2,6 @@ use Rattle.std.proofs.Common.{ap, arith, sym, take, ◌≡◌, ◌∙◌}
 use Rattle.std.proofs.lemmas.Bool.Decides.{nat_tests}
 use Rattle.std.specs.Option.{is_some}
 use Rattle.scr_memory.specs.Memories.{MemoryView}
-use Rattle.scr_term.specs.Operations.States.{TerminalState}
 use Rattle.scr_term.specs.Operations.Steps.{runs}
 use Rattle.scr_terminal.specs.Terminals.{TerminalView}
 use Rattle.scr_memory.proofs.TryingLaws.{first_run, first_undefined, not_some}

@@ -1,4 +1,4 @@
-use Rattle.std.proofs.Common.{arith, ◌∙◌, length, drop, length-drop, length-take}
+use Rattle.std.proofs.Common.{arith}
 use Rattle.scr_memory.proofs.TryingLaws.{later_undefined, on_err, run_on, tried_on}
 use Rattle.scr_memory.proofs.spares.Spare.run.Goals as goal
 

@@ -1,4 +1,4 @@
-use Rattle.std.proofs.Common.{◌≡◌, ◌<◌, ◌≤◌, ◌&&◌, ℕ, leb, ltb}
+use Rattle.std.proofs.Common.{◌&&◌, leb, ltb}
 use Rattle.scr_terminal.specs.Marks.{AreOfSize, HasAdded}
 use Rattle.scr_terminal.proofs.marks.Marks.mark_rows.Given as goal
 
