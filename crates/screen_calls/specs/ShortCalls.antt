@@ -1,5 +1,5 @@
 -- Calls by the short names that scripts have for them, and what follows each.
-use Rattle.std.specs.Prelude.{ℕ, nat_le, false, List, [], ◌∷◌, Option, Some, None, option_and_then, option_map, codes, if◌then◌else◌}
+use Rattle.std.specs.Prelude.{ℕ, false, List, [], ◌∷◌, Option, Some, None, option_and_then, option_map, codes, if◌then◌else◌}
 use Rattle.std.specs.Str.{bytes_eq}
 use Rattle.scr_cells.specs.declared.attributes.Attrs.{Attrs}
 use Rattle.scr_cells.specs.CellViews.{CellView}
@@ -58,6 +58,23 @@ attributes number = record { 0 = number }
 abbrev pub plain_cell : ℕ → ℕ → CellView
 plain_cell byte attrs = record { character = byte; attrs = attrs; pair = 0 }
 
+-- the calls that have most fields
+abbrev pub resize_read : List (List ℕ) → Option Call
+resize_read fields = three_read number number number (λ w rows columns. ResizeWindow (window w) rows columns) fields
+
+abbrev pub pad_read : List (List ℕ) → Option Call
+pad_read fields = seven_numbers (λ w row column top left bottom right. PadNoutrefresh (window w) row column top left bottom right) fields
+
+abbrev pub copy_read : List (List ℕ) → Option Call
+copy_read fields =
+    eight_numbers (λ source target row column top left bottom right. Copy (window source) (window target) row column top left bottom right false) fields
+
+abbrev pub pair_read : List (List ℕ) → Option Call
+pair_read fields = three_read number colour colour (λ pair foreground background. SetPairOf pair foreground background) fields
+
+abbrev pub background_read : List (List ℕ) → Option Call
+background_read fields = three_read number graphic (up_to 127) (λ w byte attrs. ChangeBackground (window w) (plain_cell byte attrs)) fields
+
 -- names, each with what is made of the fields behind it
 abbrev pub Names : Type 0 → Type 0
 Names C = List (List ℕ × (List (List ℕ) → Option C))
@@ -72,7 +89,7 @@ by_name (row ∷ rows) name fields other = if bytes_eq name row.0 then row.1 fie
 abbrev pub refreshes : Names Call
 refreshes =
     (codes "refresh", one_read number (λ w. Noutrefresh (window w)))
-    ∷ (codes "padrefresh", seven_numbers (λ w row column top left bottom right. PadNoutrefresh (window w) row column top left bottom right))
+    ∷ (codes "padrefresh", pad_read)
     ∷ (codes "update", none_read Doupdate)
     ∷ []
 
@@ -82,14 +99,14 @@ settings =
     (codes "at", three_read number number number (λ w row column. MoveCursor (window w) row column))
     ∷ (codes "attr", two_read number (up_to 127) (λ w attrs. AttrSet (window w) (attributes attrs)))
     ∷ (codes "color", two_read number number (λ w pair. ColorSet (window w) pair))
-    ∷ (codes "pair", three_read number colour colour (λ pair foreground background. SetPairOf pair foreground background))
+    ∷ (codes "pair", pair_read)
     ∷ (codes "scrollok", two_read number setting (λ w is_on. ScrollOk (window w) is_on))
     ∷ []
 
 -- calls that copy from window to window
 abbrev pub copies : Names Call
 copies =
-    (codes "copy", eight_numbers (λ source target row column top left bottom right. Copy (window source) (window target) row column top left bottom right false))
+    (codes "copy", copy_read)
     ∷ (codes "overlay", two_read number number (λ source target. Overlay (window source) (window target)))
     ∷ (codes "overwrite", two_read number number (λ source target. Overwrite (window source) (window target)))
     ∷ []
@@ -98,7 +115,7 @@ copies =
 abbrev pub changes : Names Call
 changes =
     (codes "byte", two_read number (up_to 255) (λ w byte. AddByte (window w) byte (attributes 0)))
-    ∷ (codes "bkgd", three_read number graphic (up_to 127) (λ w byte attrs. ChangeBackground (window w) (plain_cell byte attrs)))
+    ∷ (codes "bkgd", background_read)
     ∷ (codes "erase", one_read number (λ w. Erase (window w)))
     ∷ (codes "clear", one_read number (λ w. Clear (window w)))
     ∷ (codes "lines", one_read number (λ w. BorderOf (window w) BOX))
@@ -111,7 +128,7 @@ subwindows =
     (codes "sub", five_numbers (λ w rows columns row column. Sub (window w) rows columns row column))
     ∷ (codes "derive", five_numbers (λ w rows columns row column. Derive (window w) rows columns row column))
     ∷ (codes "subpad", five_numbers (λ w rows columns row column. SubPad (window w) rows columns row column))
-    ∷ (codes "resize", three_read number number number (λ w rows columns. ResizeWindow (window w) rows columns))
+    ∷ (codes "resize", resize_read)
     ∷ []
 
 -- calls that make or delete windows, or touch their lines

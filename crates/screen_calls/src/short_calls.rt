@@ -2,7 +2,7 @@
 ghost use Rattle.std.specs.Prelude.{◌≡◌, false, map};
 ghost use Rattle.screen_calls.specs.Fields.{colour as colour_of, graphic as graphic_of, integer as integer_of, number as number_of, setting as setting_of, up_to as up_to_of};
 ghost use Rattle.screen_calls.specs.Reading.{read};
-ghost use Rattle.screen_calls.specs.ShortCalls.{attributes, change_call, copy_call, eight_numbers, five_numbers, four_numbers, one_read, plain_cell, refresh_call, setting_call, seven_numbers, short_call, subwindow_call, three_read, two_read, window};
+ghost use Rattle.screen_calls.specs.ShortCalls.{attributes, background_read, change_call, copy_call, copy_read, five_numbers, four_numbers, one_read, pad_read, pair_read, refresh_call, resize_read, setting_call, seven_numbers, short_call, subwindow_call, three_read, two_read, window};
 ghost use Rattle.screen_calls.specs.declared.calls.Call.TheVariants.{AddByte, AttrSet, ChangeBackground, Copy, Derive, PadNoutrefresh, ResizeWindow, Scroll, ScrollOk, SetPairOf, Sub, SubPad};
 
 use crate::calls::Call;
@@ -160,7 +160,7 @@ fn sub_pad<'a>(fields: &[&'a [u8]]) -> Result<Call, Reason<'a>>
 
 // `resize W R C`.
 fn resized<'a>(fields: &[&'a [u8]]) -> Result<Call, Reason<'a>>
-    ensures { read result ≡ three_read number_of number_of number_of (λ w rows columns. ResizeWindow (window w) rows columns) (map (λ field. field.now) fields.now) }
+    ensures { read result ≡ resize_read (map (λ field. field.now) fields.now) }
 {
     let (window, rows, columns) = three(fields)?;
     Ok(Call::ResizeWindow(Win(window), rows, columns))
@@ -210,7 +210,7 @@ fn scrolling<'a>(fields: &[&'a [u8]]) -> Result<Call, Reason<'a>>
 
 // `padrefresh W` and six numbers.
 fn taking<'a>(fields: &[&'a [u8]]) -> Result<Call, Reason<'a>>
-    ensures { read result ≡ seven_numbers (λ w row column top left bottom right. PadNoutrefresh (window w) row column top left bottom right) (map (λ field. field.now) fields.now) }
+    ensures { read result ≡ pad_read (map (λ field. field.now) fields.now) }
 {
     let (pad, row, column, corners) = seven(fields)?;
     let (top, left, bottom, right) = corners;
@@ -219,7 +219,7 @@ fn taking<'a>(fields: &[&'a [u8]]) -> Result<Call, Reason<'a>>
 
 // `pair N F B`.
 fn colours<'a>(fields: &[&'a [u8]]) -> Result<Call, Reason<'a>>
-    ensures { read result ≡ three_read number_of colour_of colour_of (λ pair foreground background. SetPairOf pair foreground background) (map (λ field. field.now) fields.now) }
+    ensures { read result ≡ pair_read (map (λ field. field.now) fields.now) }
 {
     let &[pair, foreground, background] = fields else {
         return Err(count_fault(fields));
@@ -229,7 +229,7 @@ fn colours<'a>(fields: &[&'a [u8]]) -> Result<Call, Reason<'a>>
 
 // `bkgd W BYTE N`.
 fn background<'a>(fields: &[&'a [u8]]) -> Result<Call, Reason<'a>>
-    ensures { read result ≡ three_read number_of graphic_of (up_to_of 127) (λ w byte attrs. ChangeBackground (window w) (plain_cell byte attrs)) (map (λ field. field.now) fields.now) }
+    ensures { read result ≡ background_read (map (λ field. field.now) fields.now) }
 {
     let &[window, character, attrs] = fields else {
         return Err(count_fault(fields));
@@ -243,7 +243,7 @@ fn background<'a>(fields: &[&'a [u8]]) -> Result<Call, Reason<'a>>
 
 // `copy S D` and six numbers.
 fn copying<'a>(fields: &[&'a [u8]]) -> Result<Call, Reason<'a>>
-    ensures { read result ≡ eight_numbers (λ source target row column top left bottom right. Copy (window source) (window target) row column top left bottom right false) (map (λ field. field.now) fields.now) }
+    ensures { read result ≡ copy_read (map (λ field. field.now) fields.now) }
 {
     let [source, rest @ ..] = fields else {
         return Err(count_fault(fields));

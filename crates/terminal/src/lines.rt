@@ -98,7 +98,9 @@ impl TerminalLine {
     pub fn read<R: io::Input + Files + Clock>(&mut self, rt: &R, piece: &mut [u8]) -> Input
         ensures within { IsWithin piece.new result }
         ensures ending { self.old.is_ending ≡ true → (self.new ≡ self.old) × (piece.new ≡ piece.old) × (result ≡ Input.Ended) }
-        ensures reads { self.old.is_ending ≡ false → (before : Option (List ℕ)) × (after : Option (List ℕ)) × IsLineRead before after piece.new self.old self.new result }
+        ensures reads { self.old.is_ending ≡ false
+            → (before : Option (List ℕ)) × (after : Option (List ℕ))
+            × IsLineRead before after piece.new self.old self.new result }
     {
         self.read_from(rt, &mut rt.reader(), piece)
     }
@@ -175,7 +177,8 @@ impl TerminalLine {
     ) -> Input
         ensures within { IsWithin piece.new result }
         ensures gives { Consumes (T.remaining reader.old) (T.remaining reader.new) (bytes_of piece.new result) }
-        ensures reads { IsNoRead (T.remaining reader.old) (T.remaining reader.new) self.old self.new result ⊎ IsKeyboardRead (T.remaining reader.old) (T.remaining reader.new) piece.new self.old self.new result }
+        ensures reads { IsNoRead (T.remaining reader.old) (T.remaining reader.new) self.old self.new result
+            ⊎ IsKeyboardRead (T.remaining reader.old) (T.remaining reader.new) piece.new self.old self.new result }
     {
         if piece.is_empty() {
             return Input::Failed;
@@ -211,7 +214,8 @@ impl TerminalLine {
     // What an empty read means that took this long, if the clock says how long.
     fn empty(&mut self, took: io::Result<Duration>) -> Input
         ensures none { (piece : List ℕ) → bytes_of piece result ≡ [] }
-        ensures known { IfOk took (λ t. (self.new ≡ record self.old { sudden = sudden_after self.old.sudden (as_nanos t) }) × (result ≡ empty_input self.new.sudden)) }
+        ensures known { IfOk took (λ t. (self.new ≡ record self.old { sudden = sudden_after self.old.sudden (as_nanos t) })
+            × (result ≡ empty_input self.new.sudden)) }
         ensures unknown { IfErr took (λ _. IsFailedRead self.old self.new result) }
     {
         let Ok(took) = took else {

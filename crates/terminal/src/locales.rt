@@ -12,7 +12,8 @@ use std::rt::Env;
 /// locale of characters is that of the first of `LC_ALL`, `LC_CTYPE` and `LANG` that is set and not empty (X/Open Base
 /// Definitions, 8.2). Fails only when memory runs out.
 pub(crate) fn opening_of_locale<R: Env + AllocGlobal>(rt: &R) -> Result<Opening, NoMemory>
-    ensures { IfOk result (λ opening. (all : List ℕ) × (characters : List ℕ) × (language : List ℕ) × IsOpenedIn (first_named all (first_named characters language)) opening) }
+    ensures { IfOk result (λ opening. (all : List ℕ) × (characters : List ℕ) × (language : List ℕ)
+        × IsOpenedIn (first_named all (first_named characters language)) opening) }
 {
     let all = said_by(rt, "LC_ALL")?;
     let characters = said_by(rt, "LC_CTYPE")?;

@@ -71,7 +71,9 @@ impl Received {
     /// Reads the keyboard once, where nothing waits. What was read waits then.
     pub(crate) fn read(&mut self, rt: &HostRuntime, line: &mut TerminalLine) -> Input
         ensures ending { line.old.is_ending ≡ true → (line.new ≡ line.old) × (self.new ≡ []) × (result ≡ Input.Ended) }
-        ensures reads { line.old.is_ending ≡ false → (before : Option (List ℕ)) × (after : Option (List ℕ)) × (piece : List ℕ) × IsLineRead before after piece line.old line.new result × (self.new ≡ bytes_of piece result) }
+        ensures reads { line.old.is_ending ≡ false
+            → (before : Option (List ℕ)) × (after : Option (List ℕ)) × (piece : List ℕ)
+            × IsLineRead before after piece line.old line.new result × (self.new ≡ bytes_of piece result) }
     {
         self.read_from(rt, line, &mut rt.reader())
     }
@@ -85,7 +87,9 @@ impl Received {
     ) -> Input
         ensures waits { Consumes (T.remaining reader.old) (T.remaining reader.new) self.new }
         ensures ending { line.old.is_ending ≡ true → (line.new ≡ line.old) × (self.new ≡ []) × (reader.new ≡ reader.old) × (result ≡ Input.Ended) }
-        ensures reads { line.old.is_ending ≡ false → (piece : List ℕ) × IsLineRead (T.remaining reader.old) (T.remaining reader.new) piece line.old line.new result × (self.new ≡ bytes_of piece result) }
+        ensures reads { line.old.is_ending ≡ false
+            → (piece : List ℕ) × IsLineRead (T.remaining reader.old) (T.remaining reader.new) piece line.old line.new result
+            × (self.new ≡ bytes_of piece result) }
     {
         let input = line.read_from(rt, reader, self.piece.as_mut_slice());
         self.used = 0;
