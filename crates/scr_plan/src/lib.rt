@@ -2,6 +2,7 @@
 #![tactic(auto)]
 
 mod blanks;
+mod bounds;
 mod checked_plans;
 mod checking;
 mod joined_changes;
@@ -32,6 +33,7 @@ mod unknown_rows;
 mod visiting;
 mod wiping;
 
+pub use bounds::bound;
 pub use checked_plans::plan_checked;
 pub use checking::{NotAPlan, check};
 pub use joined_changes::joined;

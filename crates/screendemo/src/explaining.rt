@@ -137,8 +137,8 @@ fn add_count(before: usize, count: usize, page: &mut Page) {
     page.add(b"  ");
 }
 
-// Adds the number of bytes of the last update, and of what it is compared with.
-fn add_sums(alloc: Global, last: &LastUpdate, page: &mut Page) -> Result<(), NoMemory> {
+/// Adds the number of bytes of the last update, and of what it is compared with.
+pub fn add_sums(alloc: Global, last: &LastUpdate, page: &mut Page) -> Result<(), NoMemory> {
     let picture = last.screen.picture();
     let scratch = scratch_price(alloc, &last.profile, picture)?;
     let joined = if last.is_known {

@@ -21,6 +21,12 @@ pub enum DemoFailure {
     /// The script was not run to its end, since a line is bad for this reason.
     #[error("{0}: {1}")]
     Line(DemoFault, String),
+    /// A line of the operations is none.
+    #[error("operations, line {0}: bad operation")]
+    Operation(u32),
+    /// The operations are no plan, for this reason.
+    #[error("not a plan: {0}")]
+    NotAPlan(String),
     /// Memory ran out.
     #[error("out of memory")]
     NoMemory,
@@ -34,6 +40,8 @@ impl DemoFailure {
             DemoFailure::Read
             | DemoFailure::Demo(_)
             | DemoFailure::Line(_, _)
+            | DemoFailure::Operation(_)
+            | DemoFailure::NotAPlan(_)
             | DemoFailure::NoMemory => 1,
         }
     }

@@ -27,6 +27,8 @@ pub struct LastUpdate {
     pub plan: Ops,
     /// Whether there is an update before the last, so that what the terminal shows is known.
     pub is_known: bool,
+    // How many updates are made; those behind them are not.
+    left: u32,
 }
 
 /// A blank screen, and no update yet. Fails only when memory runs out.
@@ -48,7 +50,20 @@ pub fn open(alloc: Global, charset: Charset, size: Size) -> Result<LastUpdate, N
         terminal,
         plan: Ops(Vec::new(alloc)),
         is_known: false,
+        left: u32::MAX,
     })
+}
+
+/// Executes lines up to the update with this number, counted from 1, which is not made: the screen is then as it finds it.
+/// Fails only when memory runs out.
+pub fn run_before_update(
+    alloc: Global,
+    lines: &[u8],
+    updates: u32,
+    last: &mut LastUpdate,
+) -> Result<(), NoMemory> {
+    last.left = updates.saturating_sub(1);
+    run_to_update(alloc, lines, updates, last)
 }
 
 /// Executes lines up to the update with this number, counted from 1. Fails only when memory runs
@@ -149,11 +164,14 @@ fn make(alloc: Global, call: &Call, screen: &mut Screen) -> Result<bool, NoMemor
     }
 }
 
-// Sends the terminal what the previous update sends, and makes another update. Returns true: it is
-// one.
+// Sends the terminal what the previous update sends, and makes another update, unless none is left to be made. Returns
+// true: it is one.
 fn update(alloc: Global, last: &mut LastUpdate) -> Result<bool, NoMemory> {
     follow(&last.profile, &last.plan, &mut last.terminal);
-    last.plan = planned(alloc, &mut last.screen)?;
+    if last.left > 0 {
+        last.left -= 1;
+        last.plan = planned(alloc, &mut last.screen)?;
+    }
     Ok(true)
 }
 
@@ -166,18 +184,17 @@ fn planned(alloc: Global, screen: &mut Screen) -> Result<Ops, NoMemory> {
     }
 }
 
-// Executes operations on a terminal.
+// Executes operations on a terminal. Each operation of an update is defined.
 fn follow(profile: &Profile, ops: &Ops, terminal: &mut Terminal) {
     for op in &ops.0 {
         step(profile, *op, terminal);
     }
 }
 
-// Executes an operation on a terminal, if it has the profile's size. Each operation of an update is
-// defined.
-fn step(profile: &Profile, op: Op, terminal: &mut Terminal) {
+/// Executes an operation on a terminal, and returns whether it is defined there and the terminal has the profile's size.
+pub fn step(profile: &Profile, op: Op, terminal: &mut Terminal) -> bool {
     let (size, other) = (profile.size(), terminal.size());
-    if size.rows == other.rows && size.columns == other.columns {
-        let _ = terminal.step(profile, op);
-    }
+    size.rows == other.rows
+        && size.columns == other.columns
+        && terminal.step(profile, op).is_ok()
 }

@@ -1,14 +1,17 @@
 //! Runs a script that draws on a screen, and prints what a terminal shows of it. With `-r` it writes the terminal's
 //! bytes instead. With `-e` it explains the script's last update: each operation that is sent with the bytes of its
-//! text, and how many bytes these are, beside those of the joined repaint and of painting from scratch. With `--picture`
-//! it draws the last screen as an SVG. With `--calls` the lines of a file may also be calls by the names of the screen's
-//! methods, and updates that fail. With `-u` the terminal speaks UTF-8. With `-v` it says why a line is not a command.
+//! text, and how many bytes these are, beside those of the joined repaint and of painting from scratch. With `--check`
+//! it says whether given operations could be sent as that update. With `--picture` it draws the last screen as an SVG.
+//! With `--calls` the lines of a file may also be calls by the names of the screen's methods, and updates that fail. With
+//! `-u` the terminal speaks UTF-8. With `-v` it says why a line is not a command.
 #![tactic(auto)]
 
 mod bad_lines;
+mod checking;
 mod explaining;
 mod failures;
 mod last_update;
+mod operations;
 mod pages;
 mod pictures;
 mod pricing;
@@ -16,6 +19,7 @@ mod scripts;
 mod words;
 
 use bad_lines::reason_at;
+use checking::verdict;
 use explaining::explanation;
 use failures::DemoFailure;
 use pictures::picture;
@@ -82,6 +86,11 @@ fn perform(rt: &HostRuntime, asked: &Request, script: &[u8]) -> Result<(), DemoF
             ended.and(told)
         }
         DemoMode::Explain => print(rt, explanation(rt.alloc(), charset, script)),
+        DemoMode::Check => {
+            let operations = self::script(rt, asked.operations.as_deref())?;
+            let text = verdict(rt.alloc(), charset, script, &operations)?;
+            print(rt, Ok(text))
+        }
         DemoMode::Picture => print(rt, picture(rt.alloc(), output, script)),
     }
 }

@@ -2,7 +2,7 @@
 
 use crate::failures::DemoFailure;
 use clap::error::ErrorKind;
-use clap::{Arg, ArgAction, ArgGroup, Command};
+use clap::{Arg, ArgAction, ArgGroup, ArgMatches, Command};
 use program_input::VERSION;
 use scr_cells::Charset;
 use std::alloc::{AllocError, Global};
@@ -21,6 +21,8 @@ pub enum DemoMode {
     Send,
     /// The last update is explained.
     Explain,
+    /// Given operations are checked in place of the last update's.
+    Check,
     /// The last screen is drawn as a picture.
     Picture,
 }
@@ -32,6 +34,8 @@ pub struct Request {
     pub task: DemoMode,
     /// The file of a script whose lines may also be calls; `None` for a script on the standard input.
     pub calls: Option<String>,
+    /// The file of the operations that are checked.
+    pub operations: Option<String>,
     /// The terminal's charset.
     pub charset: Charset,
     /// Whether it is said why a line is not a command.
@@ -77,7 +81,7 @@ fn command<'a>(alloc: Global, version: &'a str) -> Result<Command<'a>, AllocErro
         .arg(version_wanted(alloc))
 }
 
-// At most one of the three is given.
+// At most one of these is given.
 fn tasks<'a>(alloc: Global, command: Command<'a>) -> Result<Command<'a>, AllocError> {
     let raw = Arg::new(alloc, "raw")
         .short('r')
@@ -93,17 +97,28 @@ fn tasks<'a>(alloc: Global, command: Command<'a>) -> Result<Command<'a>, AllocEr
         .help("Draws the last screen as an SVG");
     let tasks = ArgGroup::new(alloc, "tasks");
     let tasks = tasks.arg("raw")?.arg("explain")?.arg("picture")?;
-    command.arg(raw)?.arg(explain)?.arg(picture)?.group(tasks)
+    let tasks = tasks.arg("check")?;
+    let command = command.arg(raw)?.arg(explain)?.arg(picture)?;
+    command.arg(checked(alloc))?.group(tasks)
 }
 
-// What -e explains is not cut by writers that fail.
+fn checked<'a>(alloc: Global) -> Arg<'a> {
+    Arg::new(alloc, "check")
+        .long("check")
+        .action(ArgAction::Set)
+        .value_name("FILE")
+        .help("Says whether the operations in FILE could be sent as the last update")
+}
+
+// What -e explains and --check checks is not cut by writers that fail.
 fn calls<'a>(alloc: Global) -> Result<Arg<'a>, AllocError> {
     Arg::new(alloc, "calls")
         .long("calls")
         .action(ArgAction::Set)
         .value_name("FILE")
         .help("Reads the script from FILE, where lines may also be calls by the names of methods")
-        .conflicts_with("explain")
+        .conflicts_with("explain")?
+        .conflicts_with("check")
 }
 
 fn utf8<'a>(alloc: Global) -> Arg<'a> {
@@ -134,6 +149,8 @@ fn asked_in(alloc: Global, version: &str, words: &[String]) -> Result<Request, c
     let matches = command(alloc, version)?.try_get_matches_from(words)?;
     let task = if matches.get_flag("explain") {
         DemoMode::Explain
+    } else if matches.get_str("check").is_some() {
+        DemoMode::Check
     } else if matches.get_flag("picture") {
         DemoMode::Picture
     } else if matches.get_flag("raw") {
@@ -146,16 +163,21 @@ fn asked_in(alloc: Global, version: &str, words: &[String]) -> Result<Request, c
     } else {
         Charset::Ascii
     };
-    let calls = match matches.get_str("calls") {
-        Some(file) => Some(file.to_string(alloc)?),
-        None => None,
-    };
     Ok(Request {
         task,
-        calls,
+        calls: file_in(alloc, &matches, "calls")?,
+        operations: file_in(alloc, &matches, "check")?,
         charset,
         is_verbose: matches.get_flag("verbose"),
     })
+}
+
+// The file that an option names.
+fn file_in(alloc: Global, matches: &ArgMatches, option: &str) -> Result<Option<String>, AllocError> {
+    match matches.get_str(option) {
+        Some(file) => Ok(Some(file.to_string(alloc)?)),
+        None => Ok(None),
+    }
 }
 
 fn words(rt: &(impl Env + AllocGlobal)) -> Result<Vec<String>, DemoFailure> {
