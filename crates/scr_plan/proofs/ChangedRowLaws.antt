@@ -3,31 +3,24 @@ use Rattle.std.proofs.Common.{◌≡◌, ℕ, zero, suc, ◌+◌, ◌-◌, ◌<�
 use Rattle.std.specs.List.{flat_map}
 use Rattle.std.proofs.lemmas.Bool.Decides.{nat_tests}
 use Rattle.std.proofs.lemmas.List.{get_or_push, get_or_append_left}
-use Rattle.scr_cells.specs.Grids.{grid_at, grid_row}
-use Rattle.scr_cells.specs.LookViews.{LookView, blank}
+use Rattle.scr_cells.specs.Grids.{grid_row}
+use Rattle.scr_cells.specs.LookViews.{LookView}
 use Rattle.scr_cells.specs.PictureViews.{PictureView}
 use Rattle.scr_memory.specs.Memories.{MemoryView, is_known_row}
-use Rattle.scr_prices.specs.declared.rows.RowChange.{RowChange}
-use Rattle.scr_prices.specs.declared.runs.Run.{Run}
-use Rattle.scr_prices.specs.declared.shifts.Shift.{Shift}
+use Rattle.scr_planner.specs.declared.rows.RowChange.{RowChange}
 use Rattle.scr_term.specs.Operations.Profiles.{ProfileView}
 use Rattle.scr_virtual.specs.Ranges.{in_range}
 use Rattle.scr_virtual.specs.VirtualViews.{VirtualView}
 use Rattle.scr_plan.proofs.JoinLaws.{differs_same, known_row}
 use Rattle.scr_plan.proofs.JoinedRowLaws.{all_of, left_or_not, rows_go}
-use Rattle.scr_plan.proofs.MovedLaws.{not_moved}
 use Rattle.scr_plan.proofs.PartLaws.{look_refl, none_in_part, outside_above, outside_below, rows_same}
-use Rattle.scr_plan.proofs.PlainLaws.{look_same, not_false, not_in}
-use Rattle.scr_plan.specs.Code.Drafts.{HasChangesIn, HasDiffering, KeepsRuns, in_runs}
-use Rattle.scr_plan.specs.Code.Joinings.{Continues, ShowsRow, joined_at}
-use Rattle.scr_cells.specs.Showing.{shown_in}
-use Rattle.scr_plan.specs.Code.Painters.{painter_look, painter_of, row_differs}
+use Rattle.scr_plan.specs.Code.Joinings.{Continues, joined_at}
+use Rattle.scr_plan.specs.Code.Painters.{painter_of, row_differs}
 use Rattle.scr_plan.specs.Code.Planning.{AreChanges, IsChange, IsSameRow, change_at, row_after, row_at}
-use Rattle.scr_plan.specs.Code.Settled.{HasShown, HasShownIn, is_moved}
 use Rattle.scr_plan.specs.Repaints.{ShowsOutside, differing, differs, is_none_left, look_eq, look_in}
 use Rattle.scr_plan.specs.Scratch.{look_at, places, row_places}
 use Rattle.scr_plan.specs.declared.painting.Painter.{Painter}
-use Rattle.scr_plan.specs.declared.strokes.Draft.{Draft}
+use Rattle.scr_plan.specs.declared.drafts.Draft.{Draft}
 
 before_or_not : (r row : ℕ) (A : Type 0) → (r < row → A) → (row ≤ r → A) → A
 before_or_not r row A before behind = by (ltb r row) refl
@@ -149,74 +142,10 @@ change_is ranges profile memory virtual same painter who r from last start looks
     by c (inr over) wide = shown c wide (outside_above from last c (omega (arith, over)))
     by c (inl under) wide = before_or_not c from (d c ≡ false) (λ below. shown c wide (outside_below from last c below)) (λ over. here c ∙ before c over under)
 
--- the same where all columns are looked at
-pub whole_change_is : (profile : ProfileView) (picture : PictureView) (memory : MemoryView) (painter : Painter) → painter ≡ painter_of profile
-    → (r start : ℕ) (looks : List LookView) → r < picture.rows → is_known_row memory r ≡ true → looks ≡ grid_row memory.state.grid r → start < picture.columns
-    → ((c : ℕ) → 0 ≤ c → c < start → row_differs painter picture (Some looks) (r, c) ≡ false) → row_differs painter picture (Some looks) (r, start) ≡ true
-    → IsChange profile picture memory (record { row = r; start = start; end = picture.columns })
-whole_change_is profile picture memory painter who r start looks high known are some before first = record {
-  row = high;
-  some = some;
-  inside = omega arith;
-  first = here start ∙ first;
-  outside = by;
-}
-  where
-    here : (c : ℕ) → differs profile picture memory (r, c) ≡ row_differs painter picture (Some looks) (r, c)
-    here c = sym (ap (λ p. row_differs p picture (Some looks) (r, c)) who ∙ differs_same profile picture memory r (Some looks) (known_row memory r looks known are) c)
-
-    by : (c : ℕ) → (c < start) ⊎ (picture.columns ≤ c) → c < picture.columns → differs profile picture memory (r, c) ≡ false
-    by c (inr over) wide = absurd (omega (arith, over, wide))
-    by c (inl under) wide = here c ∙ before c (omega arith) under
-
--- a row that shows in all its columns what is seen there
-pub whole_row_is : (profile : ProfileView) (picture : PictureView) (memory : MemoryView) (painter : Painter) → painter ≡ painter_of profile
-    → (r : ℕ) (looks : List LookView) → is_known_row memory r ≡ true → looks ≡ grid_row memory.state.grid r
-    → ((c : ℕ) → c < picture.columns → row_differs painter picture (Some looks) (r, c) ≡ false) → IsSameRow profile picture memory r
-whole_row_is profile picture memory painter who r looks known are same c wide =
-    sym (ap (λ p. row_differs p picture (Some looks) (r, c)) who ∙ differs_same profile picture memory r (Some looks) (known_row memory r looks known are) c) ∙ same c wide
-
 -- ---- going through them
-
--- a row that does not differ has no runs
-pub has_same : (profile : ProfileView) (picture : PictureView) (memory : MemoryView) (runs : List Run) (r : ℕ) → IsSameRow profile picture memory r → HasChangesIn profile picture memory runs r
-has_same profile picture memory runs r same c wide e = alike (is_known_row memory r) (look_eq (look_in memory (r, c)) (look_at profile picture (r, c))) (same c wide) refl
-  where
-    alike : (known shown : Bool) → not (known && shown) ≡ false → look_eq (look_in memory (r, c)) (look_at profile picture (r, c)) ≡ shown → look_in memory (r, c) ≡ look_at profile picture (r, c)
-    alike true true h is = look_same (look_in memory (r, c)) (look_at profile picture (r, c)) is
-    alike true false h is = (cc)
-    alike false shown h is = (cc)
 
 pub after_next : (changes : List RowChange) (k : ℕ) → row_after changes (k + 1) ≡ (change_at changes k).row + 1
 after_next changes k = let next : k + 1 ≡ suc k = omega arith in ap (row_after changes) next
-
--- what holds in rows that do not differ, and in those of the first changes, holds as far as these go
-pub walked : (profile : ProfileView) (picture : PictureView) (memory : MemoryView) (changes : List RowChange) (end : ℕ) → AreChanges profile picture memory changes end → (P : ℕ → Type 0) → ((r : ℕ) → IsSameRow profile picture memory r → P r)
-    → (k : ℕ) → k < length changes → ((r : ℕ) → r < row_after changes k → P r) → P (change_at changes k).row → (r : ℕ) → r < row_after changes (k + 1) → P r
-walked profile picture memory changes end are P same k inside before own r below =
-    let row : ℕ = (change_at changes k).row in
-    let one : ltb k (length changes) ≡ true = grind (arith, nat_tests) in
-    let high : r < row + 1 = subst (λ n. r < n) (after_next changes k) below in
-    before_or_not r (row_after changes k) (P r) (before r)
-    (λ over. before_or_not r row (P r) (λ under. same r (are.same k r (omega (arith, inside)) over (subst (λ b. r < (if b then row else end)) (sym one) under)))
-    (λ at. let here : row ≡ r = omega (arith, at, high) in subst P here own))
-
-pub walked_all : (profile : ProfileView) (picture : PictureView) (memory : MemoryView) (changes : List RowChange) (end : ℕ) → AreChanges profile picture memory changes end → (P : ℕ → Type 0) → ((r : ℕ) → IsSameRow profile picture memory r → P r)
-    → ((r : ℕ) → r < row_after changes (length changes) → P r) → (r : ℕ) → r < end → P r
-walked_all profile picture memory changes end are P same before r below =
-    let none : ltb (length changes) (length changes) ≡ false = grind (arith, nat_tests) in
-    before_or_not r (row_after changes (length changes)) (P r) (before r)
-    (λ over. same r (are.same (length changes) r (omega arith) over (subst (λ b. r < (if b then (change_at changes (length changes)).row else end)) (sym none) below)))
-
--- the runs of one change more, and of all
-pub changes_found : (profile : ProfileView) (picture : PictureView) (memory : MemoryView) (changes : List RowChange) (end : ℕ) → AreChanges profile picture memory changes end → (k : ℕ) → k < length changes → (some more : List Run) → KeepsRuns some more
-    → ((r : ℕ) → r < row_after changes k → HasChangesIn profile picture memory some r) → HasChangesIn profile picture memory more (change_at changes k).row → (r : ℕ) → r < row_after changes (k + 1) → HasChangesIn profile picture memory more r
-changes_found profile picture memory changes end are k inside some more keeps before own =
-    walked profile picture memory changes end are (HasChangesIn profile picture memory more) (has_same profile picture memory more) k inside (λ r below c wide e. before r below c wide (not_in (in_runs some (r, c)) (in_runs more (r, c)) (keeps (r, c)) e)) own
-
-pub all_found : (profile : ProfileView) (picture : PictureView) (memory : MemoryView) (changes : List RowChange) (end k : ℕ) → AreChanges profile picture memory changes end → length changes ≡ k → (runs : List Run) → ((r : ℕ) → r < row_after changes k → HasChangesIn profile picture memory runs r)
-    → (r : ℕ) → r < end → HasChangesIn profile picture memory runs r
-all_found profile picture memory changes end k are last runs has = walked_all profile picture memory changes end are (HasChangesIn profile picture memory runs) (has_same profile picture memory runs) (λ r below. has r (subst (λ n. r < row_after changes n) last below))
 
 -- what they add to the joined repaint, after what the rows before them do
 gap_goes : (profile : ProfileView) (picture : PictureView) (memory : MemoryView) (m n : ℕ) → m ≤ n → ((r : ℕ) → m ≤ r → r < n → IsSameRow profile picture memory r) → (old mid : Draft)
@@ -257,44 +186,3 @@ changes_left profile picture memory (change ∷ more) are =
     let is = are.each 0 (omega arith) in
     let some : false ≡ (length (change ∷ more) == 0) = grind (arith, nat_tests) in
     left_or_not profile picture memory true (λ e. (cc)) (λ e. (change.row, change.start, is.row, omega (arith, is.some, is.inside), is.first)) ∙ some
-
--- ---- one of them
-
--- its runs
-pub change_found : (profile : ProfileView) (picture : PictureView) (memory : MemoryView) (painter : Painter) → painter ≡ painter_of profile → (change : RowChange) (looks : List LookView) → is_known_row memory change.row ≡ true → looks ≡ grid_row memory.state.grid change.row
-    → IsChange profile picture memory change → (runs : List Run) → HasDiffering painter picture change.row (Some looks) change.start change.end runs → HasChangesIn profile picture memory runs change.row
-change_found profile picture memory painter who change looks known are is runs has c wide e =
-    shows.looks c
-    ∙ look_same (shown_in (Some looks) c) (painter_look painter picture (r, c)) (not_false (look_eq (shown_in (Some looks) c) (painter_look painter picture (r, c))) same)
-    ∙ ap (λ p. painter_look p picture (r, c)) who
-  where
-    r : ℕ
-    r = change.row
-
-    shows : ShowsRow memory r (Some looks)
-    shows = known_row memory r looks known are
-
-    outside : (c < change.start) ⊎ (change.end ≤ c) → row_differs painter picture (Some looks) (r, c) ≡ false
-    outside out = ap (λ p. row_differs p picture (Some looks) (r, c)) who ∙ differs_same profile picture memory r (Some looks) shows c ∙ is.outside c out wide
-
-    same : row_differs painter picture (Some looks) (r, c) ≡ false
-    same = before_or_not c change.start (row_differs painter picture (Some looks) (r, c) ≡ false) (λ under. outside (inl under))
-        (λ over. before_or_not c change.end (row_differs painter picture (Some looks) (r, c) ≡ false) (λ under. not_in (row_differs painter picture (Some looks) (r, c)) (in_runs runs (r, c)) (has c over under) e) (λ at. outside (inr at)))
-
--- ---- once rows were shifted
-
--- a row that a shift does not change
-still_shown : (profile : ProfileView) (picture : PictureView) (memory : MemoryView) (shift : Shift) (runs : List Run) (r : ℕ) → is_moved (Some shift) r ≡ false → HasChangesIn profile picture memory runs r → HasShownIn profile picture (Some shift) memory.state.grid runs r
-still_shown profile picture memory shift runs r still has c wide e = not_moved (Some shift) (grid_at blank memory.state.grid) r c still ∙ has c wide e
-
--- the rows above it, those that it changes, and those below it
-pub shown_after : (profile : ProfileView) (picture : PictureView) (memory : MemoryView) (shift : Shift) (one two all : List Run) → ((r : ℕ) → r < shift.top → r < picture.rows → HasChangesIn profile picture memory one r) → KeepsRuns one two
-    → ((r : ℕ) → shift.top ≤ r → r < shift.end → HasShownIn profile picture (Some shift) memory.state.grid two r) → KeepsRuns two all → ((r : ℕ) → shift.end ≤ r → r < picture.rows → HasChangesIn profile picture memory all r)
-    → HasShown profile picture (Some shift) memory.state.grid 0 all
-shown_after profile picture memory shift one two all above keeps moved keeps_more below r low high =
-    before_or_not r shift.top (HasShownIn profile picture (Some shift) memory.state.grid all r)
-    (λ under. let still : is_moved (Some shift) r ≡ false = grind (arith, nat_tests) in
-    still_shown profile picture memory shift all r still (λ c wide e. above r under high c wide (not_in (in_runs one (r, c)) (in_runs two (r, c)) (keeps (r, c)) (not_in (in_runs two (r, c)) (in_runs all (r, c)) (keeps_more (r, c)) e))))
-    (λ over. before_or_not r shift.end (HasShownIn profile picture (Some shift) memory.state.grid all r)
-    (λ under c wide e. moved r over under c wide (not_in (in_runs two (r, c)) (in_runs all (r, c)) (keeps_more (r, c)) e))
-    (λ behind. let still : is_moved (Some shift) r ≡ false = grind (arith, nat_tests) in still_shown profile picture memory shift all r still (below r behind high)))

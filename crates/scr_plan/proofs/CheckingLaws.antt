@@ -16,7 +16,7 @@ use Rattle.scr_memory.specs.Memories.{MayBe, MemoryView, is_known}
 use Rattle.scr_memory.specs.MemoryRuns.{KnownMemories, MemoryRuns}
 use Rattle.scr_plan.proofs.RememberedPlanLaws.{agrees_itself, painted_at}
 use Rattle.scr_plan.proofs.ScratchLaws.{grid_is_painted}
-use Rattle.scr_plan.proofs.ShortPlanLaws.{not_nothing}
+use Rattle.scr_plan.proofs.PlanLaws.{not_nothing}
 use Rattle.scr_memory.specs.Spares.{HasTried, IsAllMarked, IsSpareOf, SpareView}
 use Rattle.scr_terminal.specs.Marks.{AreNone, is_marked}
 use Rattle.scr_plan.specs.Checks.{IsAhead, IsUnlike, IsWholeBound, ShowsMarked, ShowsUnmarked}
@@ -26,15 +26,6 @@ use Rattle.scr_plan.specs.Scratch.{Fits, RunsToShow, look_at}
 -- what a plan says of the remembered state, where that is possible
 pub plan_says : (profile : ProfileView) (virtual : VirtualView) (memory : MemoryView) → MayBe (abilities profile) memory → (ops : List Op) → IsPlan profile memory virtual ops → RunsToShow profile memory.state ops virtual.picture
 plan_says profile virtual memory may ops plan = plan.shows memory.state (record { state = may.state; agrees = λ calm. agrees_itself (abilities profile) memory may })
-
--- a list that is undefined is no plan
-pub undefined_is_none : (profile : ProfileView) (virtual : VirtualView) (memory : MemoryView) → MayBe (abilities profile) memory → (ops : List Op) → is_some (runs profile memory.state ops) ≡ false → IsPlan profile memory virtual ops → ⊥
-undefined_is_none profile virtual memory may ops none plan =
-    let shown = plan_says profile virtual memory may ops plan in
-    never (sym none ∙ ap is_some shown.run)
-  where
-    never : false ≡ true → ⊥
-    never e = (cc)
 
 -- nor is one after which a place shows something else, or the cursor is elsewhere
 pub unlike_is_none : (profile : ProfileView) (virtual : VirtualView) → IsPicture virtual.picture → (memory : MemoryView) → MayBe (abilities profile) memory → (ops : List Op) (new : TerminalState) → runs profile memory.state ops ≡ Some new

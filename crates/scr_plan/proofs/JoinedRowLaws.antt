@@ -5,8 +5,8 @@ use Rattle.std.proofs.lemmas.Bool.Decides.{nat_tests}
 use Rattle.std.proofs.lemmas.List.{append-nil}
 use Rattle.std.proofs.lemmas.List.Elements.{recursion_from_All, filter-append}
 use Rattle.scr_term.specs.Operations.Texts.{bytes_of, has, put_of}
-use Rattle.scr_plan.proofs.DraftLaws.{more_bytes, one_bytes}
-use Rattle.scr_plan.specs.Code.Drafts.{place_bytes, run_bytes}
+use Rattle.scr_plan.proofs.LengthLaws.{more_bytes, one_bytes}
+use Rattle.scr_plan.specs.Code.Joinings.{place_bytes, run_bytes}
 use Rattle.scr_cells.specs.CellViews.{IsCell, blank_cell}
 use Rattle.scr_cells.specs.Characters.{IsCharacter}
 use Rattle.scr_cells.specs.Grids.{grid_at, grid_row}
@@ -32,7 +32,7 @@ use Rattle.scr_plan.specs.Code.Painters.{is_that_pen, painter_begins, painter_lo
 use Rattle.scr_memory.specs.Memories.{MemoryView, is_known}
 use Rattle.scr_plan.specs.Repaints.{IsSizeOf, ShowsOutside, begins_place, brief_place, differing, differs, erased_column, is_none_left, joins_left}
 use Rattle.scr_plan.specs.Scratch.{goes, look_at, places, row_places}
-use Rattle.scr_plan.specs.declared.strokes.Draft.{Draft}
+use Rattle.scr_plan.specs.declared.drafts.Draft.{Draft}
 use Rattle.scr_plan.specs.declared.painting.Painter.{Painter}
 
 -- ---- after a place that was painted

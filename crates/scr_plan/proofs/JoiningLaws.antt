@@ -23,13 +23,12 @@ use Rattle.scr_term.specs.Operations.Texts.{has, put_of, bytes_of}
 use Rattle.scr_plan.proofs.JoinedLaws.{without_step}
 use Rattle.scr_plan.proofs.JoinedPriceLaws.{price, price_is, put_price}
 use Rattle.scr_plan.proofs.PlaceLaws.{at_place, begun_run, erases_line, first_step, move_run, one_run, plain, then_runs, put_by}
-use Rattle.scr_plan.specs.Code.Drafts.{IsAdded}
-use Rattle.scr_plan.specs.Code.Joinings.{Continues, CountsAtMost, IsCounted, IsJoining, counted_up}
+use Rattle.scr_plan.specs.Code.Joinings.{Continues, CountsAtMost, IsAdded, IsCounted, IsJoining, counted_up}
 use Rattle.scr_plan.specs.Code.Painters.{moves_unless_there, painter_begins, painter_leads, painter_of, resets_unless_plain}
 use Rattle.scr_memory.specs.Memories.{IsMemory, MemoryView, is_in_place}
 use Rattle.scr_plan.specs.Repaints.{is_idle, without_idle}
 use Rattle.scr_plan.specs.Scratch.{enter, goes, look_at, renders, resets, sets_background, sets_foreground}
-use Rattle.scr_plan.specs.declared.strokes.Draft.{Draft}
+use Rattle.scr_plan.specs.declared.drafts.Draft.{Draft}
 use Rattle.scr_plan.specs.declared.painting.Painter.{Painter}
 
 -- ---- steps that change nothing
@@ -203,13 +202,6 @@ counts_less laws profile old new xs ys more goes is stores first start all joini
 plain_shown : (profile : ProfileView) → IsShownPen (abilities profile) plain_pen
 plain_shown profile = grind (arith, and_le_r)
 
--- attributes can be turned off where one may be on
-pub may_reset : (profile : ProfileView) → HasLaws profile → (pen : PenView) → IsShownPen (abilities profile) pen → (is_there profile Sgr0 ≡ true) ⊎ (is_plain_pen pen ≡ true)
-may_reset profile can pen shown = may_by (is_there profile Sgr0) refl
-  where
-    may_by : (b : Bool) → is_there profile Sgr0 ≡ b → (is_there profile Sgr0 ≡ true) ⊎ (is_plain_pen pen ≡ true)
-    may_by b is = grind arith
-
 -- a state of the emulated terminal is one of the profile when no attribute is on
 plain_state : (profile : ProfileView) (state : TerminalState) → IsState (full_abilities Utf8 profile.rows profile.columns) state → IsState (abilities profile) (plain state)
 plain_state profile state is = record { whole = is.whole; looks = is.looks; spot = is.spot; pen = plain_shown profile }
@@ -223,3 +215,10 @@ pub begun_joining : RunLaws → ProfilesHave → (profile : ProfileView) → IsP
     → (is_there profile Sgr0 ≡ true) ⊎ (is_plain_pen memory.state.pen ≡ true) → (first : List Op) (mid joining : Draft) (begun : ℕ) (spot : Spot) (pen : PenView) → begun ≡ length first → mid.ops.items ≡ first ++ resets_unless_plain painter memory.state.pen → mid.bytes ≡ 0
     → spot ≡ memory.state.spot → pen ≡ plain_pen → IsCounted profile mid joining begun spot pen → IsJoining profile mid.keeps first memory.state (resets profile) joining
 begun_joining laws have profile p painter who memory is rows columns may first mid joining begun spot pen at made none there plainly counted = search (arith, first_resets, drop-append_seam, take-append_seam, plain, plain_state, price)
+
+-- attributes can be turned off where one may be on
+pub may_reset : (profile : ProfileView) → HasLaws profile → (pen : PenView) → IsShownPen (abilities profile) pen → (is_there profile Sgr0 ≡ true) ⊎ (is_plain_pen pen ≡ true)
+may_reset profile can pen shown = may_by (is_there profile Sgr0) refl
+  where
+    may_by : (b : Bool) → is_there profile Sgr0 ≡ b → (is_there profile Sgr0 ≡ true) ⊎ (is_plain_pen pen ≡ true)
+    may_by b is = grind arith

@@ -10,12 +10,24 @@ use Rattle.scr_cells.specs.declared.charsets.Charset.{Charset}
 use Rattle.scr_cells.specs.declared.charsets.Charset.TheVariants.{Ascii, Utf8}
 use Rattle.scr_term.specs.Operations.Laws.{HasLaws}
 use Rattle.scr_term.specs.Operations.Profiles.{ProfileView}
-use Rattle.scr_plan.specs.Code.Drafts.{place_bytes, run_bytes}
+use Rattle.scr_plan.specs.Code.Joinings.{place_bytes, run_bytes}
 use Rattle.scr_plan.specs.Code.Painters.{painter_look, painter_of}
 use Rattle.scr_plan.specs.Scratch.{look_at}
 use Rattle.scr_plan.specs.declared.painting.Painter.{Painter}
-use Rattle.scr_plan.proofs.DraftLaws.{more_bytes}
 use Rattle.scr_plan.proofs.PlaceLaws.{cell_of, seen_had}
+
+-- the bytes of no place, of one more, and of one
+no_bytes : (profile : ProfileView) (picture : PictureView) (row column : ℕ) → run_bytes profile picture row column (column - column) ≡ 0
+no_bytes profile picture row column = let none : column - column ≡ 0 = omega arith in subst (λ n. run_bytes profile picture row column n ≡ 0) (sym none) refl
+
+pub more_bytes : (profile : ProfileView) (picture : PictureView) (row column place : ℕ) → column ≤ place → run_bytes profile picture row column (place + 1 - column) ≡ run_bytes profile picture row column (place - column) + place_bytes profile picture row place
+more_bytes profile picture row column place low =
+    let count : place + 1 - column ≡ suc (place - column) = omega (arith, low) in
+    let there : column + (place - column) ≡ place = omega (arith, low) in
+    ap (run_bytes profile picture row column) count ∙ ap (λ c. run_bytes profile picture row column (place - column) + place_bytes profile picture row c) there
+
+pub one_bytes : (profile : ProfileView) (picture : PictureView) (row column : ℕ) → run_bytes profile picture row column (column + 1 - column) ≡ place_bytes profile picture row column
+one_bytes profile picture row column = omega (arith, more_bytes profile picture row column column (omega arith), no_bytes profile picture row column)
 
 -- a character has the bytes of its encoding
 place_encoded : (profile : ProfileView) → HasLaws profile → (picture : PictureView) → IsPicture picture → (r c : ℕ) → place_bytes profile picture r c ≡ length (encode_utf8 (look_at profile picture (r, c)).character)

@@ -1,5 +1,5 @@
 -- The places of a screen, of its rows and of parts of these, and which of them differ.
-use Rattle.std.proofs.Common.{◌≡◌, ℕ, ◌+◌, ◌<◌, ◌≤◌, ◌==◌, ◌&&◌, not, Bool, true, false, refl, ap, arith, get_or, List, [], ◌∷◌, ◌++◌, length, filter, Option, Some, None, zero, suc, if◌then◌else◌}
+use Rattle.std.proofs.Common.{◌≡◌, ℕ, ◌+◌, ◌<◌, ◌≤◌, ◌==◌, ◌&&◌, not, Bool, true, false, refl, ap, arith, get_or, List, [], ◌∷◌, ◌++◌, length, filter, Option, Some, zero, suc, if◌then◌else◌}
 use Rattle.std.specs.List.{AllByRecursion, flat_map, list_all, list_any, range_with_len}
 use Rattle.std.proofs.lemmas.List.{append-nil, map-append}
 use Rattle.std.proofs.lemmas.List.Concat.{flat_map-append}
@@ -143,12 +143,6 @@ pub same_place : (ranges : VirtualView → ℕ → Option (ℕ × ℕ)) (profile
 same_place ranges profile memory virtual same size known r c high wide out =
     let row = row_known memory known r (omega (arith, high, size.known_rows)) in
     rw (row, same r c high wide row out) (ap not (look_refl (look_at profile virtual.picture (r, c))))
-
--- a row that has not changed, and one that has changed in some columns
-pub row_same : (ranges : VirtualView → ℕ → Option (ℕ × ℕ)) (profile : ProfileView) (memory : MemoryView) (virtual : VirtualView) → ShowsOutside ranges profile memory virtual → IsSizeOf virtual.picture memory → is_known memory ≡ true
-    → (r : ℕ) → r < virtual.picture.rows → ranges virtual r ≡ None → filter (differs profile virtual.picture memory) (row_places virtual.picture.columns r) ≡ []
-row_same ranges profile memory virtual same size known r high none =
-    none_in_part (differs profile virtual.picture memory) 0 virtual.picture.columns r (λ c low wide. same_place ranges profile memory virtual same size known r c high (omega arith) (ap (λ range. in_range range c) none))
 
 pub outside_below : (from last c : ℕ) → c < from → in_range (Some (from, last)) c ≡ false
 outside_below from last c below = grind arith

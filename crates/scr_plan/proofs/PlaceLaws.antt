@@ -16,12 +16,12 @@ use Rattle.scr_cells.specs.PenViews.{is_plain_pen, pair_colours, plain_pen}
 use Rattle.scr_cells.specs.PictureViews.{PictureView, IsPicture, IsPlace}
 use Rattle.scr_term.specs.declared.operations.capability.Capability.TheVariants.{Sgr0}
 use Rattle.scr_term.specs.declared.operations.operation.Op.{Op}
-use Rattle.scr_term.specs.declared.operations.operation.Op.TheVariants.{EraseBelow, EraseLine, Move, Put, Reset, Write}
+use Rattle.scr_term.specs.declared.operations.operation.Op.TheVariants.{EraseLine, Move, Put, Reset, Write}
 use Rattle.scr_term.specs.declared.operations.operation.Spot.TheVariants.{At}
 use Rattle.scr_term.specs.Operations.Laws.{HasLaws, ProfilesHave, RunLaws, WritesSeen}
 use Rattle.scr_term.specs.Operations.Profiles.{ProfileView, IsProfile, abilities, has_colours, is_there, shown_set}
-use Rattle.scr_term.specs.Operations.States.{TerminalState, IsShownPen, erased, from_place, is_from_place, rest_of_line_erased}
-use Rattle.scr_term.specs.Operations.Steps.{act, lines_below_erased, runs, step}
+use Rattle.scr_term.specs.Operations.States.{TerminalState, IsShownPen, erased, from_place, rest_of_line_erased}
+use Rattle.scr_term.specs.Operations.Steps.{act, runs, step}
 use Rattle.scr_term.specs.Operations.Texts.{has, is_attribute, put_of}
 use Rattle.scr_plan.specs.Scratch.{enter, look_at, renders, resets, sets_background, sets_foreground, PlaceIsPainted}
 
@@ -49,11 +49,6 @@ one_run profile old new op had acts = grind arith
 pub erases_line : (profile : ProfileView) (state : TerminalState) (r c : ℕ) → state.spot ≡ At r c → is_plain_pen state.pen ≡ true → act profile state EraseLine ≡ Some (erased profile.rows profile.columns (is_in_run r c profile.columns) state)
 erases_line profile state r c here plain =
     ap (λ b. if b then rest_of_line_erased profile.rows profile.columns state else None) plain ∙ ap (λ spot. from_place spot (λ r c. Some (erased profile.rows profile.columns (is_in_run r c profile.columns) state))) here
-
-pub erases_below : (profile : ProfileView) (state : TerminalState) (top : ℕ) → state.spot ≡ At top 0 → is_plain_pen state.pen ≡ true → act profile state EraseBelow ≡ Some (erased profile.rows profile.columns (is_from_place top 0) state)
-erases_below profile state top here plain =
-    ap (λ b. if b then lines_below_erased profile.rows profile.columns state else None) plain
-    ∙ ap (λ spot. from_place spot (λ r c. if c == 0 then Some (erased profile.rows profile.columns (is_from_place r c) state) else None)) here
 
 -- ---- the cursor goes to a place
 

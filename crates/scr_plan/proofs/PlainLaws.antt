@@ -33,9 +33,6 @@ look_same a b e = grind arith
 
 -- ---- what does not differ is shown
 
-pub not_false : (b : Bool) → not b ≡ false → b ≡ true
-not_false b e = grind arith
-
 pub same_is_shown : (profile : ProfileView) (picture : PictureView) (memory : MemoryView) (old : TerminalState) → Agrees (abilities profile) memory old
     → (r c : ℕ) → r < profile.rows → differs profile picture memory (r, c) ≡ false → grid_at blank old.grid r c ≡ look_at profile picture (r, c)
 same_is_shown profile picture memory old agrees r c high e = grind arith
@@ -117,8 +114,3 @@ plain_by laws have place_law grids profile p picture k fits memory old agrees fa
 pub plain_shows : RunLaws → ProfilesHave → PlaceIsPainted → GridLaws LookView → (profile : ProfileView) → IsProfile profile → (picture : PictureView) → IsPicture picture → Fits profile picture
     → (memory : MemoryView) (old : TerminalState) → Agrees (abilities profile) memory old → RunsToShow profile old (plain_of profile memory picture) picture
 plain_shows laws have place_law grids profile p picture k fits memory old agrees = grind (arith, plain_by)
-
--- what implies something false is false
-pub not_in : (a b : Bool) → (a ≡ true → b ≡ true) → b ≡ false → a ≡ false
-not_in true b h e = sym (h (λ i. true)) ∙ e
-not_in false b h e = (λ i. false)

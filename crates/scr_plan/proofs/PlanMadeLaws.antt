@@ -11,7 +11,7 @@ use Rattle.scr_term.specs.Operations.Profiles.{ProfileView, IsProfile, abilities
 use Rattle.scr_term.specs.Operations.Texts.{all_bytes}
 use Rattle.scr_plan.proofs.JoinedPriceLaws.{anew_less, count_fewer, count_is, joined_less, plain_less}
 use Rattle.scr_plan.proofs.RememberedPlanLaws.{agrees_itself}
-use Rattle.scr_plan.proofs.ShortPlanLaws.{begins_with, not_nothing}
+use Rattle.scr_plan.proofs.PlanLaws.{begins_with, not_nothing}
 use Rattle.scr_memory.specs.Memories.{MemoryView, is_known}
 use Rattle.scr_memory.specs.MemoryRuns.{MemoryRuns}
 use Rattle.scr_plan.specs.Plans.{IsPlan, PlanIsCheap, PlansAreMade, PlansAreRemembered}

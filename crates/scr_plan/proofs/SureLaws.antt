@@ -16,7 +16,7 @@ use Rattle.scr_term.specs.Operations.Texts.{all_bytes}
 use Rattle.scr_memory.specs.Memories.{Agrees, MayBe, MemoryView, all_followed, clears, followed, has_one_pen, is_known, is_nothing_known, places_spot}
 use Rattle.scr_term.specs.Operations.Painted.{Shows}
 use Rattle.scr_plan.proofs.ScratchLaws.{cleared_run, grid_is_painted}
-use Rattle.scr_plan.proofs.ShortPlanLaws.{begins_with}
+use Rattle.scr_plan.proofs.PlanLaws.{begins_with}
 use Rattle.scr_term.specs.declared.operations.capability.Capability.TheVariants.{Sgr0}
 use Rattle.scr_plan.specs.Plans.{Begins, IsPlan, PlansAreRemembered, bound_of}
 use Rattle.scr_plan.specs.Scratch.{Fits, look_at, resets}

@@ -1,5 +1,5 @@
 //! Plans that are checked on a spare terminal before they are sent. The definitions are in `specs/Checks.antt`.
-ghost use Rattle.std.specs.Prelude.{◌≡◌, ◌&&◌, not, IfErr, IfOk, false, true};
+ghost use Rattle.std.specs.Prelude.{◌≡◌, ◌<◌, ◌≤◌, ◌-◌, ◌^◌, ◌&&◌, not, IfErr, IfOk, false, true};
 ghost use Rattle.scr_term.specs.Operations.Profiles.{abilities};
 ghost use Rattle.scr_term.specs.Operations.States.{IsShownPen};
 ghost use Rattle.scr_memory.specs.Memories.{is_known, is_placed};
@@ -11,28 +11,27 @@ ghost use Rattle.scr_plan.specs.Plans.{IsPlan};
 ghost use Rattle.scr_plan.specs.Repaints.{IsSizeOf, IsUpToDate, differing, is_none_left};
 ghost use Rattle.scr_plan.specs.Scratch.{Fits};
 
-use crate::joined_changes::{bytes_of_joined, joined_by};
+use crate::joined_changes::{bytes_anew, bytes_of_joined, joined_by};
+use crate::joining::price_of;
 use crate::looked::{Changes, Looked};
 use crate::painting::Painter;
 use crate::plan_laws::{joined_is_cheap, plans_are_made};
-use crate::plans::{anew_or_partly, is_nothing_left, wants_changes_alone};
+use crate::plans::{sure_anew, wants_changes_alone};
 use crate::scenes::{Scene, Update};
-use crate::short_plan::short_changes;
-use crate::strokes::Draft;
 use scr_cells::{Look, NoMemory, grid_laws};
 use scr_memory::{Memory, Spare, known_memories, memory_runs, spare_laws};
-use scr_prices::RowChange;
+use scr_planner::{RowChange, short_anew, short_changes, short_partly};
 use scr_term::{Op, Ops, Profile, profiles_have, run_laws};
 use scr_virtual::Virtual;
 use std::alloc::Global;
 
-/// Plans an update like `plan_altered`, and tries the plan on a spare, which shows what is remembered. Where all is known,
-/// the short plan is sent only if the check lets it through, otherwise the joined repaint. The spare is ahead by the plan
-/// then, so that `Memory::take` follows it by copying what changed; if there are no operations, it is as it was. If memory
-/// runs out, it shows what is remembered.
+/// Plans an update like `plan_altered`, and tries the plan on a spare, which shows what is remembered. Where all is
+/// known, the short plan is sent only if the check lets it through, otherwise the joined repaint. The spare is ahead by
+/// the plan then, so that `Memory::take` follows it by copying what changed; if there are no operations, it is as it
+/// was. If memory runs out, it shows what is remembered.
 ///
-/// Picture, memory and spare have the profile's size, the profile's terminal can have the remembered pen, and a known row
-/// shows the picture except in the columns that may look different. Fails only when memory runs out.
+/// Picture, memory and spare have the profile's size, the profile's terminal can have the remembered pen, and a known
+/// row shows the picture except in the columns that may look different. Fails only when memory runs out.
 pub fn plan_checked(
     alloc: Global,
     profile: &Profile,
@@ -63,10 +62,26 @@ pub fn plan_checked(
         wanted,
         by: Looked::Altered,
     };
-    if wants_changes_alone(memory, wanted) {
-        return changes_checked(alloc, &update, spare);
+    checked(alloc, &update, spare)
+}
+
+// The plan of an update, tried on the spare, which is ahead by it then.
+pub(crate) fn checked(
+    alloc: Global,
+    update: &Update<'_>,
+    spare: &mut Spare,
+) -> Result<Ops, NoMemory>
+    requires update { IsUpdate update.now }
+    requires pen { IsShownPen (abilities update.now.scene.profile.now) update.now.memory.now.state.pen }
+    requires ready { IsReady update.now.memory.now spare.old }
+    ensures plan { IfOk result (IsPlan update.now.scene.profile.now update.now.memory.now update.now.wanted.now) }
+    ensures led { IfOk result (λ ops. IsLed update.now.scene.profile.now update.now.memory.now ops spare.new) }
+    ensures back { IfErr result (λ _. IsReady update.now.memory.now spare.new) }
+{
+    if wants_changes_alone(update.memory, update.wanted) {
+        return changes_checked(alloc, update, spare);
     }
-    anew_led(alloc, &update, spare)
+    anew_checked(alloc, update, spare)
 }
 
 // The plan where all is known: nothing, or what paints the rows that differ.
@@ -115,13 +130,12 @@ fn paint_checked(
     let _profile = update.scene.profile.size();
     let _memory = update.memory.size();
     let _wanted = update.wanted.size();
-    let draft = short_changes(alloc, update, changes)?;
-    let (bytes, ops) = bytes_of_joined(update, changes, draft.ops, draft.bytes)?;
-    let draft = Draft { ops, ..draft };
-    if draft.is_worth(bytes, update.wanted.size())
-        && update.check(spare, &draft.ops, bytes, true).is_ok()
-    {
-        return Ok(Ops(draft.ops));
+    let scene = &update.scene;
+    let short = short_changes(alloc, scene.profile, update.memory, scene.picture, changes)?;
+    let count = price_of(scene.profile, &short.0);
+    let (bytes, ops) = bytes_of_joined(update, changes, short.0, count)?;
+    if is_worth(count, bytes) && update.check(spare, &ops, bytes, true).is_ok() {
+        return Ok(Ops(ops));
     }
     joined_led(alloc, update, changes, spare)
 }
@@ -158,7 +172,48 @@ fn joined_led(
     Ok(ops)
 }
 
-// The plan if not all is known, or the whole screen is to be painted anew, with the spare ahead by it.
+// The plan if not all is known, or the whole screen is to be painted anew: a short plan, if the check lets it through,
+// or what clears the screen and the joined repaint of it.
+#[inline(never)]
+fn anew_checked(alloc: Global, update: &Update<'_>, spare: &mut Spare) -> Result<Ops, NoMemory>
+    requires update { IsUpdate update.now }
+    requires due { (is_known update.now.memory.now && not update.now.wanted.now.repaint) ≡ false }
+    requires pen { IsShownPen (abilities update.now.scene.profile.now) update.now.memory.now.state.pen }
+    requires ready { IsReady update.now.memory.now spare.old }
+    ensures plan { IfOk result (IsPlan update.now.scene.profile.now update.now.memory.now update.now.wanted.now) }
+    ensures led { IfOk result (λ ops. IsLed update.now.scene.profile.now update.now.memory.now ops spare.new) }
+    ensures back { IfErr result (λ _. IsReady update.now.memory.now spare.new) }
+{
+    joined_is_cheap();
+    let _profile = update.scene.profile.size();
+    let _memory = update.memory.size();
+    let _wanted = update.wanted.size();
+    let bytes = bytes_anew(alloc, &update.scene)?;
+    let short = short_if_unknown(alloc, update, bytes)?;
+    let count = price_of(update.scene.profile, &short.0);
+    if is_worth(count, bytes) && update.check(spare, &short.0, bytes, true).is_ok() {
+        return Ok(short);
+    }
+    anew_led(alloc, update, spare)
+}
+
+// A short plan if not all is known, or the whole screen is to be painted anew: that of a cleared screen, or one that
+// leaves the rows that are known, if it has no more bytes than that, and than so many.
+fn short_if_unknown(alloc: Global, update: &Update<'_>, most: usize) -> Result<Ops, NoMemory> {
+    let (profile, picture) = (update.scene.profile, update.scene.picture);
+    let whole = short_anew(alloc, profile, picture)?;
+    if update.wanted.repaint() {
+        return Ok(whole);
+    }
+    match short_partly(alloc, profile, update.memory, picture)? {
+        Some(part) if price_of(profile, &part.0) <= price_of(profile, &whole.0).min(most) => {
+            Ok(part)
+        }
+        _ => Ok(whole),
+    }
+}
+
+// What clears the screen, and the joined repaint of it, with the spare ahead by them.
 #[inline(never)]
 fn anew_led(alloc: Global, update: &Update<'_>, spare: &mut Spare) -> Result<Ops, NoMemory>
     requires update { IsUpdate update.now }
@@ -169,9 +224,27 @@ fn anew_led(alloc: Global, update: &Update<'_>, spare: &mut Spare) -> Result<Ops
     ensures led { IfOk result (λ ops. IsLed update.now.scene.profile.now update.now.memory.now ops spare.new) }
     ensures back { IfErr result (λ _. IsReady update.now.memory.now spare.new) }
 {
-    let ops = anew_or_partly(alloc, update)?;
+    let ops = sure_anew(alloc, update)?;
     update.lead(spare, &ops.0);
     Ok(ops)
+}
+
+// Whether so many bytes are no more than others, and these were counted exactly.
+fn is_worth(count: usize, bytes: usize) -> bool
+    ensures less { result ≡ true → count ≤ bytes }
+    ensures exact { result ≡ true → bytes < 2 ^ 64 - 1 }
+{
+    count <= bytes && bytes < usize::MAX
+}
+
+// Whether no row differs, and the cursor is where it is wanted.
+fn is_nothing_left(update: &Update<'_>, changes: &[RowChange]) -> bool
+    requires changes { AreChanges update.now.scene.profile.now update.now.wanted.now.picture update.now.memory.now changes.now update.now.wanted.now.picture.rows }
+    ensures { result ≡ (is_none_left (differing update.now.scene.profile.now update.now.wanted.now.picture update.now.memory.now) && is_placed update.now.memory.now update.now.wanted.now.picture.wish) }
+{
+    let _wanted = update.wanted.size();
+    let _memory = update.memory.size();
+    changes.is_empty() && update.memory.is_placed(update.wanted.picture().wish())
 }
 
 impl Update<'_> {

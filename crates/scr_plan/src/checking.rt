@@ -1,27 +1,21 @@
 //! The check of a list of operations before it is sent: whether it is a plan, whoever made it. The definitions are in
 //! `specs/Checks.antt`.
-ghost use Rattle.std.specs.Prelude.{ℕ, ◌≡◌, ◌+◌, ◌-◌, ◌*◌, ◌^◌, ◌<◌, ◌≤◌, ◌==◌, ◌&&◌, not, All, IfSome, OnErr, OnOk, Some, false, length, true};
+ghost use Rattle.std.specs.Prelude.{◌≡◌, ◌+◌, ◌-◌, ◌*◌, ◌<◌, ◌≤◌, ◌&&◌, not, OnErr, OnOk, Some, false, length, true};
 ghost use Rattle.std.specs.Option.{is_some};
-ghost use Rattle.scr_cells.specs.Grids.{grid_at};
-ghost use Rattle.scr_cells.specs.LookViews.{blank};
 ghost use Rattle.scr_term.specs.declared.operations.capability.Capability.TheVariants.{Sgr0};
-ghost use Rattle.scr_term.specs.declared.operations.operation.Spot.TheVariants.{At};
 ghost use Rattle.scr_term.specs.Operations.Profiles.{abilities, is_there};
 ghost use Rattle.scr_term.specs.Operations.States.{IsShownPen};
 ghost use Rattle.scr_term.specs.Operations.Steps.{runs};
-ghost use Rattle.scr_term.specs.Operations.Texts.{all_bytes, has};
-ghost use Rattle.scr_terminal.specs.Marks.{AreNone, HasAdded};
-ghost use Rattle.scr_virtual.specs.Ranges.{in_range};
-ghost use Rattle.scr_plan.specs.Code.Planning.{range_by};
-ghost use Rattle.scr_memory.specs.Memories.{all_followed, clears, is_known, is_placed};
+ghost use Rattle.scr_term.specs.Operations.Texts.{all_bytes};
+ghost use Rattle.scr_terminal.specs.Marks.{AreNone};
+ghost use Rattle.scr_memory.specs.Memories.{all_followed, clears, is_known};
 ghost use Rattle.scr_memory.specs.Spares.{HasTried, IsAllMarked, IsReady, IsSpare, IsSpareOf, are_sure, is_reset};
-ghost use Rattle.scr_plan.specs.Checks.{BeginsAnew, IsAhead, IsAlike, IsNoSurePlan, IsUnlike, IsWithin, MissesSome, ShowsMarked, ShowsMarkedIn, ShowsUnmarked};
-ghost use Rattle.scr_plan.specs.Code.Scenes.{IsScene, IsUpdate};
+ghost use Rattle.scr_plan.specs.Checks.{BeginsAnew, IsAhead, IsNoSurePlan, IsWithin};
+ghost use Rattle.scr_plan.specs.Code.Scenes.{IsUpdate};
 ghost use Rattle.scr_plan.specs.Plans.{IsPlan, bound_of};
 ghost use Rattle.scr_plan.specs.Repaints.{IsSizeOf, IsUpToDate};
-ghost use Rattle.scr_plan.specs.Scratch.{Fits, look_at};
+ghost use Rattle.scr_plan.specs.Scratch.{Fits};
 
-use crate::joining::price_of;
 use crate::looked::Looked;
 use crate::painting::Painter;
 use crate::plan_laws::plans_are_remembered;
@@ -29,7 +23,7 @@ use crate::plans::{may_be, wants_changes_alone};
 use crate::scenes::{Scene, Update};
 use scr_cells::{Look, Size, grid_laws};
 use scr_memory::{Memory, Spare, known_memories, memory_runs, spare_laws};
-use scr_term::{Op, Profile, Spot, profiles_have, run_laws};
+use scr_term::{Op, Profile, profiles_have, run_laws};
 use scr_virtual::Virtual;
 use thiserror::Error;
 
@@ -54,13 +48,13 @@ pub enum NotAPlan {
     Unlike,
 }
 
-/// Checks that operations are a plan (`IsPlan`), whoever made them: they are tried on the spare, and what they change there
-/// is compared with the picture. After `Ok` the spare is ahead by them, and `Memory::take` takes over what they lead to.
-/// After an error it shows again what is remembered.
+/// Checks that operations are a plan (`IsPlan`), whoever made them: they are tried on the spare, and what they change
+/// there is compared with the picture. After `Ok` the spare is ahead by them, and `Memory::take` takes over what they
+/// lead to. After an error it shows again what is remembered.
 ///
-/// Picture, memory and spare have the profile's size, the spare shows what is remembered, and a known row shows the picture
-/// except in the columns that may look different (`Virtual::altered`). `bound` is how many bytes they may have: those of
-/// the joined repaint or of `scratch`, or fewer. The time goes with the operations and with what changes.
+/// Picture, memory and spare have the profile's size, the spare shows what is remembered, and a known row shows the
+/// picture except in the columns that may look different (`Virtual::altered`). `bound` is how many bytes they may have:
+/// those of the joined repaint or of `scratch`, or fewer. The time goes with the operations and with what changes.
 pub fn check(
     profile: &Profile,
     memory: &Memory,
@@ -154,12 +148,12 @@ impl Update<'_> {
             return self.check_changes(spare, ops, bound, is_counted);
         }
         if begins_anew(self.scene.profile, ops) {
-            return self.check_anew(spare, ops, bound);
+            return self.check_anew(spare, ops, bound, is_counted);
         }
         if self.wanted.repaint() {
             return Err(NotAPlan::Unsure);
         }
-        self.check_surely(spare, ops, bound)
+        self.check_surely(spare, ops, bound, is_counted)
     }
 
     // Where all is known: the operations are executed, and the columns that are looked at are compared, and what the
@@ -203,8 +197,15 @@ impl Update<'_> {
 
 impl Update<'_> {
     // Where the operations clear the screen first: they are executed, and everything is compared.
-    fn check_anew(&self, spare: &mut Spare, ops: &[Op], bound: usize) -> Result<(), NotAPlan>
+    fn check_anew(
+        &self,
+        spare: &mut Spare,
+        ops: &[Op],
+        bound: usize,
+        is_counted: bool,
+    ) -> Result<(), NotAPlan>
         requires update { IsUpdate self.now }
+        requires counted { IsWithin self.now.scene.profile.now ops.now bound is_counted }
         requires due { (is_known self.now.memory.now && not self.now.wanted.now.repaint) ≡ false }
         requires pen { IsShownPen (abilities self.now.scene.profile.now) self.now.memory.now.state.pen }
         requires begins { BeginsAnew self.now.scene.profile.now ops.now }
@@ -228,13 +229,20 @@ impl Update<'_> {
         let _marked = spare.memory().size();
         run(self.scene.profile, spare, ops)?;
         let _spare = spare.memory().size();
-        self.scene.compare(spare, ops, bound, false)?;
+        self.scene.compare(spare, ops, bound, is_counted)?;
         Ok(())
     }
 
     // Where not all is known: the operations are followed from what is known, and everything is compared.
-    fn check_surely(&self, spare: &mut Spare, ops: &[Op], bound: usize) -> Result<(), NotAPlan>
+    fn check_surely(
+        &self,
+        spare: &mut Spare,
+        ops: &[Op],
+        bound: usize,
+        is_counted: bool,
+    ) -> Result<(), NotAPlan>
         requires update { IsUpdate self.now }
+        requires counted { IsWithin self.now.scene.profile.now ops.now bound is_counted }
         requires calm { self.now.wanted.now.repaint ≡ false }
         requires unknown { is_known self.now.memory.now ≡ false }
         requires other { BeginsAnew self.now.scene.profile.now ops.now → ⊥ }
@@ -260,7 +268,7 @@ impl Update<'_> {
         if !spare.memory().known() {
             return Err(NotAPlan::Unsure);
         }
-        self.scene.compare(spare, ops, bound, false)?;
+        self.scene.compare(spare, ops, bound, is_counted)?;
         Ok(())
     }
 }
@@ -305,16 +313,6 @@ fn is_few(ops: &[Op], size: Size) -> bool
     ensures no { result ≡ false → length ops.now ≤ size.rows * size.columns * 12 + 4 → ⊥ }
 {
     ops.len() <= size.rows as usize * size.columns as usize * 12 + 4
-}
-
-// Whether operations have no more bytes than a bound, where the terminal has them all; they are counted unless that was
-// done before.
-fn is_within(profile: &Profile, ops: &[Op], bound: usize, is_counted: bool) -> bool
-    requires counted { IsWithin profile.now ops.now bound is_counted }
-    ensures yes { result ≡ true → All (λ op. has profile.now op ≡ true) ops.now → length (all_bytes profile.now ops.now) ≤ bound }
-    ensures no { result ≡ false → bound < 2 ^ 64 - 1 → All (λ op. has profile.now op ≡ true) ops.now → length (all_bytes profile.now ops.now) ≤ bound → ⊥ }
-{
-    is_counted || bound < usize::MAX && price_of(profile, ops) <= bound
 }
 
 // Whether operations begin by turning attributes off, where the terminal can, and clearing the screen.
@@ -367,131 +365,4 @@ fn is_reset(op: Op) -> bool
     ensures { result ≡ is_reset op }
 {
     matches!(op, Op::Reset)
-}
-
-impl Update<'_> {
-    // Marks the columns that are looked at.
-    fn mark_changes(&self, spare: &mut Spare)
-        requires update { IsUpdate self.now }
-        requires known { is_known self.now.memory.now ≡ true }
-        requires rows { spare.old.memory.rows ≡ self.now.memory.now.rows }
-        requires columns { spare.old.memory.columns ≡ self.now.memory.now.columns }
-        ensures memory { spare.new.memory ≡ spare.old.memory }
-        ensures shown { ShowsUnmarked self.now.scene.profile.now self.now.memory.now self.now.wanted.now spare.new.marks }
-    {
-        let _wanted = self.wanted.size();
-        let _memory = self.memory.size();
-        let _spare = spare.memory();
-        let (first, end) = self.by.rows(self.wanted);
-        for row in first..end {
-            self.mark_row(spare, row);
-        }
-    }
-
-    // Marks the columns of a row that are looked at.
-    fn mark_row(&self, spare: &mut Spare, row: u32)
-        requires row { row < self.now.wanted.now.picture.rows }
-        requires rows { spare.old.memory.rows ≡ self.now.wanted.now.picture.rows }
-        requires columns { spare.old.memory.columns ≡ self.now.wanted.now.picture.columns }
-        ensures memory { spare.new.memory ≡ spare.old.memory }
-        ensures high { spare.new.marks.rows ≡ spare.old.marks.rows }
-        ensures marks { HasAdded (λ r c. r == row && in_range (range_by self.now.by self.now.wanted.now row) c) spare.old.marks spare.new.marks }
-    {
-        let _wanted = self.wanted.size();
-        let _before = spare.memory();
-        match self.by.in_row(self.wanted, row) {
-            Some((from, last)) => spare.mark(row, from, last + 1),
-            None => {}
-        }
-        let _after = spare.memory();
-    }
-}
-
-impl Scene<'_> {
-    // Compares what was tried with the picture, in marked places and for the cursor, and the bytes with the bound.
-    fn compare(
-        &self,
-        spare: &Spare,
-        ops: &[Op],
-        bound: usize,
-        is_counted: bool,
-    ) -> Result<(), NotAPlan>
-        requires scene { IsScene self.now }
-        requires counted { IsWithin self.now.profile.now ops.now bound is_counted }
-        requires rows { spare.now.memory.rows ≡ self.now.picture.now.rows }
-        requires columns { spare.now.memory.columns ≡ self.now.picture.now.columns }
-        ensures alike { OnOk result (IsAlike self.now.profile.now self.now.picture.now bound ops.now spare.now) }
-        ensures unlike { OnErr result (IsUnlike self.now.profile.now self.now.picture.now bound ops.now spare.now) }
-    {
-        if !is_within(self.profile, ops, bound, is_counted) {
-            return Err(NotAPlan::Dear);
-        }
-        if !self.is_shown_by(spare) {
-            return Err(NotAPlan::Unlike);
-        }
-        if !self.is_placed_by(spare) {
-            return Err(NotAPlan::Unlike);
-        }
-        Ok(())
-    }
-
-    // Whether what was tried shows the picture in each marked place.
-    fn is_shown_by(&self, spare: &Spare) -> bool
-        requires scene { IsScene self.now }
-        requires rows { spare.now.memory.rows ≡ self.now.picture.now.rows }
-        requires columns { spare.now.memory.columns ≡ self.now.picture.now.columns }
-        ensures yes { result ≡ true → ShowsMarked self.now.profile.now spare.now self.now.picture.now }
-        ensures no { result ≡ false → MissesSome self.now.profile.now spare.now self.now.picture.now }
-    {
-        let _picture = self.picture.size();
-        let (first, end) = spare.marked_rows();
-        for row in first..end {
-            if !self.is_marked_shown(spare, row) {
-                return false;
-            }
-        }
-        true
-    }
-
-    // Whether what was tried shows the picture in the marked columns of a row.
-    fn is_marked_shown(&self, spare: &Spare, row: u32) -> bool
-        requires scene { IsScene self.now }
-        requires rows { spare.now.memory.rows ≡ self.now.picture.now.rows }
-        requires columns { spare.now.memory.columns ≡ self.now.picture.now.columns }
-        requires row { row < self.now.picture.now.rows }
-        ensures yes { result ≡ true → ShowsMarkedIn self.now.profile.now spare.now self.now.picture.now row }
-        ensures no { result ≡ false → MissesSome self.now.profile.now spare.now self.now.picture.now }
-    {
-        let (from, end) = spare.marked_columns(row);
-        if from >= end {
-            return true;
-        }
-        self.is_part_shown(spare.memory(), row, from, end)
-    }
-
-    // Whether columns `from..end` of a row show the picture.
-    fn is_part_shown(&self, tried: &Memory, row: u32, from: u32, end: u32) -> bool
-        requires scene { IsScene self.now }
-        requires rows { tried.now.rows ≡ self.now.picture.now.rows }
-        requires columns { tried.now.columns ≡ self.now.picture.now.columns }
-        requires row { row < self.now.picture.now.rows }
-        requires from { from ≤ end }
-        requires end { end ≤ self.now.picture.now.columns }
-        ensures yes { result ≡ true → (c : ℕ) → from ≤ c → c < end → grid_at blank tried.now.state.grid row c ≡ look_at self.now.profile.now self.now.picture.now (row, c) }
-        ensures no { result ≡ false → (c : ℕ) × (c < self.now.picture.now.columns) × (grid_at blank tried.now.state.grid row c ≡ look_at self.now.profile.now self.now.picture.now (row, c) → ⊥) }
-    {
-        let line = self.line(row, Some(tried.looks(row)));
-        self.unlike_from(&line, from, end) >= end
-    }
-
-    // Whether the cursor is where it is wanted.
-    fn is_placed_by(&self, spare: &Spare) -> bool
-        ensures yes { result ≡ true → IfSome self.now.picture.now.wish (λ wish. spare.now.memory.state.spot ≡ At wish.0 wish.1) }
-        ensures no { result ≡ false → IfSome self.now.picture.now.wish (λ wish. spare.now.memory.state.spot ≡ At wish.0 wish.1) → ⊥ }
-    {
-        match self.picture.wish() {
-            Some((row, column)) => spare.memory().remembered_spot() == Spot::At(row, column),
-            None => true,
-        }
-    }
 }

@@ -8,22 +8,26 @@ ghost use Rattle.scr_term.specs.Operations.Profiles.{abilities, is_there};
 ghost use Rattle.scr_term.specs.Operations.States.{IsShownPen};
 ghost use Rattle.scr_term.specs.Operations.Texts.{all_bytes};
 ghost use Rattle.scr_plan.specs.Code.Joinings.{Continues, CountsAtMost, counted_up, joined_at};
-ghost use Rattle.scr_plan.specs.Code.Planning.{AreChanges, IsChange, painted_anew};
+ghost use Rattle.scr_plan.specs.Code.Planning.{AreChanges, IsChange};
 ghost use Rattle.scr_plan.specs.Code.Scenes.{IsScene, IsUpdate};
 ghost use Rattle.scr_plan.specs.Repaints.{IsSizeOf, anew_of, cleared, differing, differs, is_none_left, joined_of, joined_places};
 ghost use Rattle.scr_plan.specs.Scratch.{Fits, places_cursor, resets, row_places};
 ghost use Rattle.scr_memory.specs.Memories.{is_known, is_placed};
 
+use crate::drafts::Draft;
+use crate::joining::price_of;
 use crate::looked::Changes;
 use crate::painting::Painter;
 use crate::plans::may_be;
 use crate::scenes::{Scene, Update};
-use crate::strokes::Draft;
 use scr_cells::{NoMemory, Picture, Size};
 use scr_memory::Memory;
-use scr_prices::RowChange;
-use scr_term::{Op, Ops, Profile, profiles_have, run_laws};
+use scr_planner::RowChange;
+use scr_term::{Op, Ops, Profile, blank_laws, profiles_have, run_laws};
 use std::alloc::Global;
+
+// Room for the operations that lead to a place: those of a repaint that is only counted are not kept.
+const FEW_OPERATIONS: usize = 16;
 
 impl Draft {
     // Adds what paints each place that differs from what is known of it, then what places the
@@ -104,14 +108,22 @@ impl Draft {
     }
 }
 
-// The number of bytes of the joined repaint of a cleared screen, after what clears it.
+// The number of bytes of what clears the screen, and the joined repaint of it.
 pub(crate) fn bytes_anew(alloc: Global, scene: &Scene<'_>) -> Result<usize, NoMemory>
     requires scene { IsScene scene.now }
-    ensures { IfOk result (λ bytes. bytes ≡ counted_up (length (all_bytes scene.now.profile.now (painted_anew scene.now.profile.now scene.now.picture.now)))) }
+    ensures { IfOk result (λ bytes. bytes ≤ length (all_bytes scene.now.profile.now (anew_of scene.now.profile.now scene.now.picture.now))) }
 {
-    let mut joining = Draft::on_blanks(scene.profile, Vec::new(alloc), false);
+    run_laws();
+    blank_laws();
+    profiles_have();
+    let _size = scene.profile.size();
+    let mut ops = Vec::with_capacity(alloc, FEW_OPERATIONS)?;
+    scene.painter.reset(&mut ops)?;
+    ops.push(Op::Clear)?;
+    let cleared = price_of(scene.profile, &ops);
+    let mut joining = Draft::on_blanks(scene.profile, ops, false);
     joining.join_all(scene)?;
-    Ok(joining.bytes)
+    Ok(cleared.saturating_add(joining.bytes))
 }
 
 // What clears the screen, and the joined repaint of it.

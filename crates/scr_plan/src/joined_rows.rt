@@ -7,19 +7,18 @@ ghost use Rattle.scr_cells.specs.LookViews.{blank};
 ghost use Rattle.scr_term.specs.declared.operations.operation.Op.TheVariants.{EraseLine};
 ghost use Rattle.scr_term.specs.declared.operations.operation.Spot.TheVariants.{At};
 ghost use Rattle.scr_term.specs.Operations.Texts.{has, put_of};
-ghost use Rattle.scr_term.specs.Operations.States.{spot_after};
-ghost use Rattle.scr_plan.specs.Code.Joinings.{Continues, IsAfter, ShowsRow, counted_up, joined_at};
+ghost use Rattle.scr_plan.specs.Code.Joinings.{Continues, IsAfter, ShowsRow, joined_at};
 ghost use Rattle.scr_plan.specs.Code.Painters.{is_that_pen, painter_begins, painter_look, painter_writes, part_places, pen_before, row_differs, row_paints};
 ghost use Rattle.scr_memory.specs.Memories.{MemoryView};
 ghost use Rattle.scr_plan.specs.Repaints.{differs};
 ghost use Rattle.scr_plan.specs.Scratch.{row_places};
 ghost use Rattle.scr_plan.specs.Code.Scenes.{IsLine, IsScene};
 
+use crate::drafts::Draft;
 use crate::looking::{is_shown_in, is_that_pen};
 use crate::scenes::{Line, Scene};
-use crate::strokes::Draft;
 use scr_cells::{Look, NoMemory, Pen, character_laws};
-use scr_prices::Target;
+use scr_planner::Target;
 use scr_term::{profiles_have, run_laws};
 
 impl Draft {
@@ -177,7 +176,7 @@ impl Draft {
             },
             left,
         )?;
-        self.put_each(scene, line.row, column, next)?;
+        self.count_each(scene, line.row, column, next);
         Ok(next)
     }
 

@@ -1,6 +1,6 @@
 //! The joined repaint, operation by operation: each is counted, and kept if that is asked for.
 //! `specs/Repaints.antt` defines it.
-ghost use Rattle.std.specs.Prelude.{◌≡◌, ◌+◌, ◌≤◌, ◌++◌, ◌∷◌, [], ◌⊎◌, All, IfOk, IfSome, OnOk, length, true};
+ghost use Rattle.std.specs.Prelude.{◌≡◌, ◌+◌, ◌≤◌, ◌∷◌, [], ◌⊎◌, All, IfOk, IfSome, OnOk, length, true};
 ghost use Rattle.scr_cells.specs.Characters.{IsCharacter};
 ghost use Rattle.scr_cells.specs.PenViews.{is_plain_pen, plain_pen};
 ghost use Rattle.scr_cells.specs.PictureViews.{IsPlace};
@@ -10,18 +10,18 @@ ghost use Rattle.scr_term.specs.declared.operations.capability.Capability.TheVar
 ghost use Rattle.scr_term.specs.Operations.Profiles.{is_there};
 ghost use Rattle.scr_term.specs.Operations.States.{blank_state, spot_after};
 ghost use Rattle.scr_term.specs.Operations.Texts.{all_bytes, has, put_of};
-ghost use Rattle.scr_plan.specs.Code.Joinings.{Continues, IsCounted, IsJoining, counted_up};
+ghost use Rattle.scr_plan.specs.Code.Joinings.{Continues, IsJoining, counted_up};
 ghost use Rattle.scr_plan.specs.Code.Painters.{painter_begins};
 ghost use Rattle.scr_plan.specs.Scratch.{look_at, places_cursor, resets};
 ghost use Rattle.scr_plan.specs.Code.Scenes.{IsScene};
 
+use crate::drafts::Draft;
 use crate::lengths::encoded_length;
 use crate::painting::written_by;
 use crate::scenes::Scene;
-use crate::strokes::Draft;
 use scr_cells::{NoMemory, Pen, character_laws};
 use scr_memory::Memory;
-use scr_prices::Target;
+use scr_planner::Target;
 use scr_term::{Op, Profile, Spot, blank_laws, profiles_have, run_laws};
 
 impl Draft {

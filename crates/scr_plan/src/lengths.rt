@@ -1,13 +1,12 @@
 //! How many bytes characters have. In UTF-8 that is one to three; where the terminal has ASCII alone
 //! it is one.
 ghost use Rattle.std.specs.Prelude.{◌≡◌, ◌-◌, ◌<◌, ◌≤◌, encode_utf8, length};
-ghost use Rattle.scr_plan.specs.Code.Drafts.{run_bytes};
+ghost use Rattle.scr_plan.specs.Code.Joinings.{run_bytes};
 ghost use Rattle.scr_plan.specs.Code.Scenes.{IsScene};
 
 use crate::looking::cell_in;
 use crate::scenes::Scene;
-use scr_cells::{Cell, character_laws};
-use scr_prices::extra_bytes;
+use scr_cells::character_laws;
 use scr_term::profiles_have;
 
 impl Scene<'_> {
@@ -50,26 +49,6 @@ impl Scene<'_> {
         }
         bytes
     }
-
-    // Whether the characters that are seen of a row's cells from one column up to another have more bytes than so many.
-    // There are at most as many of them.
-    #[inline(always)]
-    pub(crate) fn has_more_bytes(&self, cells: &[Cell], from: u32, end: u32, most: u32) -> bool
-        requires from { from ≤ end }
-        requires end { end ≤ length cells.now }
-    {
-        self.painter.charset.is_utf8() && has_more_encoded(cells, from, end, most)
-    }
-}
-
-// The same where characters are sent in UTF-8.
-#[inline(never)]
-fn has_more_encoded(cells: &[Cell], from: u32, end: u32, most: u32) -> bool
-    requires from { from ≤ end }
-    requires end { end ≤ length cells.now }
-{
-    let extra = extra_bytes(&cells[from as usize..end as usize]);
-    (end - from).saturating_add(extra) > most
 }
 
 // How many bytes a character has in UTF-8 (RFC 3629).

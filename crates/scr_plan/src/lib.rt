@@ -1,37 +1,24 @@
 //! Plans: the operations that bring a terminal to a picture.
 #![tactic(auto)]
 
-mod blanks;
 mod bounds;
 mod checked_plans;
 mod checking;
+mod comparing;
+mod drafts;
 mod joined_changes;
 mod joined_rows;
 mod joining;
 mod lengths;
 mod looked;
 mod looking;
-mod moving;
 mod painting;
 mod plain_repaint;
 mod plan_laws;
 mod plans;
-mod priced_rows;
-mod reaching;
-mod repeating;
-mod runs;
 mod scenes;
 mod scratch_laws;
 mod scratch_texts;
-mod settling;
-mod shifting;
-mod short_plan;
-mod shown;
-mod sliding;
-mod strokes;
-mod unknown_rows;
-mod visiting;
-mod wiping;
 
 pub use bounds::bound;
 pub use checked_plans::plan_checked;

@@ -1,17 +1,15 @@
-//! Which columns of the rows that are known an update looks at, which rows differ there, and their runs.
-ghost use Rattle.std.specs.Prelude.{ℕ, ◌≡◌, ◌<◌, ◌≤◌, [], IfSome, None, OnOk, true, ◌&&◌, nat_le, nat_lt};
+//! Which columns of the rows that are known an update looks at, and which rows differ there.
+ghost use Rattle.std.specs.Prelude.{◌≡◌, ◌<◌, ◌≤◌, [], IfSome, None, OnOk, true};
 ghost use Rattle.scr_virtual.specs.Ranges.{IsRange};
 ghost use Rattle.scr_memory.specs.Memories.{is_known, is_known_row};
-ghost use Rattle.scr_plan.specs.Code.Drafts.{HasChangesIn, KeepsRuns};
 ghost use Rattle.scr_plan.specs.Code.Planning.{AreChanges, AreNoneByOutside, IsChange, IsSameRow, range_by};
 ghost use Rattle.scr_plan.specs.Code.Scenes.{IsScene, IsUpdate};
 ghost use Rattle.scr_plan.specs.Repaints.{IsSizeOf};
 
-use crate::runs::Runs;
 use crate::scenes::{Scene, Update};
 use scr_cells::NoMemory;
 use scr_memory::Memory;
-use scr_prices::RowChange;
+use scr_planner::RowChange;
 use scr_virtual::Virtual;
 use smallvec::SmallVec;
 
@@ -132,60 +130,4 @@ impl Update<'_> {
         }
         Some(RowChange { row, start, end })
     }
-
-    // Finds the runs of the rows that differ, from the first of two rows up to the second.
-    pub(crate) fn find_in_rows(
-        &self,
-        changes: &[RowChange],
-        rows: (u32, u32),
-        runs: &mut Runs,
-    ) -> Result<(), NoMemory>
-        requires update { IsUpdate self.now }
-        requires known { is_known self.now.memory.now ≡ true }
-        requires changes { AreChanges self.now.scene.profile.now self.now.wanted.now.picture self.now.memory.now changes.now self.now.wanted.now.picture.rows }
-        ensures kept { OnOk result (KeepsRuns runs.old.items runs.new.items) }
-        ensures has { OnOk result ((r : ℕ) → rows.0 ≤ r → r < rows.1 → r < self.now.wanted.now.picture.rows → HasChangesIn self.now.scene.profile.now self.now.wanted.now.picture self.now.memory.now runs.new.items r) }
-    {
-        for change in changes {
-            if is_among(rows, change.row) {
-                self.find_in_row(change, runs)?;
-            }
-        }
-        Ok(())
-    }
-
-    // Finds the runs of a row that differs.
-    pub(crate) fn find_in_row(&self, change: &RowChange, runs: &mut Runs) -> Result<(), NoMemory>
-        requires update { IsUpdate self.now }
-        requires known { is_known_row self.now.memory.now change.now.row ≡ true }
-        requires change { IsChange self.now.scene.profile.now self.now.wanted.now.picture self.now.memory.now change.now }
-        ensures kept { OnOk result (KeepsRuns runs.old.items runs.new.items) }
-        ensures has { OnOk result (HasChangesIn self.now.scene.profile.now self.now.wanted.now.picture self.now.memory.now runs.new.items change.now.row) }
-    {
-        let _size = self.wanted.size();
-        let looks = Some(self.memory.looks(change.row));
-        self.scene
-            .add_from(change.row, looks, (change.start, change.end), runs)
-    }
-
-    // Finds the runs of a row that is known, if it differs.
-    pub(crate) fn find_if_changed(&self, row: u32, runs: &mut Runs) -> Result<(), NoMemory>
-        requires update { IsUpdate self.now }
-        requires row { row < self.now.wanted.now.picture.rows }
-        requires known { is_known_row self.now.memory.now row ≡ true }
-        ensures kept { OnOk result (KeepsRuns runs.old.items runs.new.items) }
-        ensures has { OnOk result (HasChangesIn self.now.scene.profile.now self.now.wanted.now.picture self.now.memory.now runs.new.items row) }
-    {
-        match self.change_in(row) {
-            Some(change) => self.find_in_row(&change, runs),
-            None => Ok(()),
-        }
-    }
-}
-
-// Whether a row is from the first of two rows up to the second.
-fn is_among(rows: (u32, u32), row: u32) -> bool
-    ensures { result ≡ (nat_le rows.0 row && nat_lt row rows.1) }
-{
-    rows.0 <= row && row < rows.1
 }

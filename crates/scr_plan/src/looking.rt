@@ -15,11 +15,29 @@ ghost use Rattle.scr_plan.specs.Repaints.{erased_column, look_eq};
 ghost use Rattle.scr_plan.specs.Code.Scenes.{IsLine, IsScene};
 
 use crate::scenes::{Line, Scene};
-use scr_cells::{Cell, Look, Pen, alike_before, character_laws, shown_before, unshown_before};
+use scr_cells::{Cell, Look, Pen, character_laws, shown_before, unshown_before};
 use scr_term::Op;
 
 // The code of a blank.
 const BLANK: u32 = 32;
+
+impl<'a> Scene<'a> {
+    // A row of the picture, and what it shows: `before`, or blanks.
+    pub(crate) fn line(&self, row: u32, before: Option<&'a [Look]>) -> Line<'a>
+        requires row { row < self.now.picture.now.rows }
+        requires width { IfSome before (λ looks. length looks.now ≡ self.now.picture.now.columns) }
+        ensures line { IsLine self.now.picture.now result }
+        ensures row { result.row ≡ row }
+        ensures before { result.before ≡ before.entry }
+    {
+        let _size = self.picture.size();
+        Line {
+            row,
+            cells: self.picture.row(row),
+            before,
+        }
+    }
+}
 
 impl Scene<'_> {
     // What is seen of a row's cell: the code of a character, and the pen that it is written with. Most cells are
@@ -74,7 +92,6 @@ impl Scene<'_> {
         let mut rest = Rest {
             begin: end,
             first: None,
-            last: None,
             count: 0,
         };
         while rest.begin > from {
@@ -175,30 +192,6 @@ impl Scene<'_> {
         !are_alike(first, cell) || is_shown_in(line.before, column, self.painter.code_of(cell), pen)
     }
 
-    // The first column after `column` whose cell has other attributes or another colour pair; `end`
-    // if there is none before it.
-    pub(crate) fn alike_end(&self, cells: &[Cell], column: u32, end: u32) -> u32
-        requires column { column < end }
-        requires wide { end ≤ length cells.now }
-        ensures more { column < result }
-        ensures end { result ≤ end }
-        ensures alike { (c : ℕ) → column ≤ c → c < result
-            → (painter_sees self.now.painter self.now.picture.now.pairs (slice_index_or cells.now c blank_cell)).pen ≡ (painter_sees self.now.painter self.now.picture.now.pairs (slice_index_or cells.now column blank_cell)).pen }
-    {
-        let _size = self.picture.size();
-        if column + 1 >= end {
-            return end;
-        }
-        let first = cell_in(cells, column);
-        let begun = column + alike_by_eight(cells, column, end).max(1);
-        for next in begun..end {
-            if !are_alike(first, cell_in(cells, next)) {
-                return next;
-            }
-        }
-        end
-    }
-
     // How many places from a column on do not show what is seen of their cells, all with the
     // attributes and pair of the first. They are looked at eight at a time, so the count may be too
     // low.
@@ -238,13 +231,12 @@ impl Scene<'_> {
     }
 }
 
-// The blanks at the end of a part of a row: where they begin, the first and the last of them that
-// differ from what the row shows, and how many differ.
+// The blanks at the end of a part of a row: where they begin, the first of them that differs from what
+// the row shows, and how many differ.
 #[derive(Clone, Copy)]
 pub(crate) struct Rest {
     pub(crate) begin: u32,
     pub(crate) first: Option<u32>,
-    pub(crate) last: Option<u32>,
     pub(crate) count: u32,
 }
 
@@ -263,28 +255,15 @@ impl Rest {
             return Rest {
                 begin,
                 first: self.first,
-                last: self.last,
                 count: self.count,
             };
         }
         Rest {
             begin,
             first: Some(begin),
-            last: self.last.or(Some(begin)),
             count: self.count + 1,
         }
     }
-}
-
-// How many cells from a column on have the attributes and pair of the first. They are looked at
-// eight at a time, so the count may be too low.
-fn alike_by_eight(cells: &[Cell], from: u32, end: u32) -> u32
-    requires from { from ≤ end }
-    requires end { end ≤ length cells.now }
-    ensures end { from + result ≤ end }
-    ensures alike { (c : ℕ) → from ≤ c → c < from + result → HasRendition (slice_index_or cells.now from blank_cell) cells.now c }
-{
-    alike_before(&cells[from as usize..end as usize]) as u32
 }
 
 // What a row shows in columns `from..end`: looks, or blanks.

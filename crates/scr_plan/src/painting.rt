@@ -10,7 +10,7 @@ ghost use Rattle.scr_plan.specs.Scratch.{scratch_of, row_places, renders, enter,
 ghost use Rattle.scr_plan.specs.Code.Painters.{moves_unless_there, painter_goes, painter_leads, painter_of, painter_paints, painter_paints_place, painter_resets, painter_sees, resets_unless_plain};
 
 use scr_cells::{Attrs, Cell, Charset, Look, NoMemory, Pen, Picture, character_laws};
-use scr_prices::Target;
+use scr_planner::Target;
 use scr_term::{Op, Ops, Profile, Spot};
 use std::alloc::Global;
 
@@ -200,8 +200,8 @@ impl Painter {
         self.charset.seen(cell)
     }
 
-    // Adds what writes the character that is seen of a cell to operations that have room for it. Most are of ASCII: with
-    // either charset they are seen as they are, and what is added is made in its place.
+    // Adds what writes the character that is seen of a cell to operations that have room for it. Most are of ASCII:
+    // with either charset they are seen as they are, and what is added is made in its place.
     #[inline(always)]
     #[tactic(auto, unfolding(scr_term::specs::Operations::Texts::put_of))]
     pub(crate) fn push_written(self, cell: Cell, ops: &mut Vec<Op>)

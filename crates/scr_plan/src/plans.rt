@@ -4,26 +4,22 @@ ghost use Rattle.std.specs.Option.{is_none};
 ghost use Rattle.scr_term.specs.Operations.Profiles.{abilities, has_colours, shown_set};
 ghost use Rattle.scr_term.specs.Operations.States.{IsShownPen};
 ghost use Rattle.scr_virtual.specs.VirtualViews.{range_at};
-ghost use Rattle.scr_plan.specs.Code.Planning.{AreChanges, range_by};
-ghost use Rattle.scr_memory.specs.Memories.{is_known, is_placed};
+ghost use Rattle.scr_plan.specs.Code.Planning.{range_by};
+ghost use Rattle.scr_memory.specs.Memories.{is_known};
 ghost use Rattle.scr_plan.specs.Plans.{IsPlan};
-ghost use Rattle.scr_plan.specs.Repaints.{IsSizeOf, IsUpToDate, ShowsOutside, differing, is_none_left};
+ghost use Rattle.scr_plan.specs.Repaints.{IsSizeOf, IsUpToDate, ShowsOutside};
 ghost use Rattle.scr_plan.specs.Scratch.{Fits};
 ghost use Rattle.scr_plan.specs.Code.Scenes.{IsUpdate};
 
-use crate::joined_changes::{bytes_anew, bytes_of_joined, joined_anew, joined_by};
-use crate::joining::price_of;
-use crate::looked::{Changes, Looked};
+use crate::checked_plans::checked;
+use crate::joined_changes::joined_anew;
+use crate::looked::Looked;
 use crate::painting::Painter;
-use crate::plan_laws::{joined_is_cheap, plans_are_made, plans_are_remembered};
+use crate::plan_laws::plans_are_made;
 use crate::scenes::{Scene, Update};
-use crate::short_plan::{short_anew, short_changes};
-use crate::strokes::Draft;
-use crate::unknown_rows::{is_clearing_best, short_partly};
-use scr_cells::{Look, NoMemory, Pen, grid_laws};
-use scr_memory::{Memory, known_memories, memory_runs};
-use scr_prices::RowChange;
-use scr_term::{Ops, Profile, profiles_have, run_laws};
+use scr_cells::{NoMemory, Pen};
+use scr_memory::{Memory, Spare};
+use scr_term::{Ops, Profile};
 use scr_virtual::Virtual;
 use std::alloc::Global;
 
@@ -69,7 +65,7 @@ pub fn plan_altered(
     plan_by(alloc, profile, memory, wanted, Looked::Altered)
 }
 
-// Plans an update; a known row shows the picture except in these columns.
+// Plans an update; a known row shows the picture except in these columns. The plan is tried on a spare of its own.
 fn plan_by(
     alloc: Global,
     profile: &Profile,
@@ -82,7 +78,6 @@ fn plan_by(
     requires same { ShowsOutside (range_by by) profile.now memory.now wanted.now }
     ensures { IfOk result (IsPlan profile.now memory.now wanted.now) }
 {
-    plans_are_made();
     let _profile = profile.size();
     let _wanted = wanted.size();
     let _memory = memory.size();
@@ -97,140 +92,37 @@ fn plan_by(
         wanted,
         by,
     };
-    if !wants_changes_alone(memory, wanted) {
-        return anew_or_partly(alloc, &update);
-    }
     if !may_be(profile, memory) {
-        return nothing(alloc, &update);
+        return unlikely(alloc, &update);
     }
-    changes(alloc, &update)
+    let mut spare = Spare::of(alloc, memory)?;
+    checked(alloc, &update, &mut spare)
 }
 
-// The plan where all is known: nothing, or what paints the rows that differ.
-fn changes(alloc: Global, update: &Update<'_>) -> Result<Ops, NoMemory>
+// The plan where no terminal of the profile can have the remembered pen: nothing, if all is known.
+fn unlikely(alloc: Global, update: &Update<'_>) -> Result<Ops, NoMemory>
     requires update { IsUpdate update.now }
-    requires due { (is_known update.now.memory.now && not update.now.wanted.now.repaint) ≡ true }
-    requires known { is_known update.now.memory.now ≡ true }
-    requires pen { IsShownPen (abilities update.now.scene.profile.now) update.now.memory.now.state.pen }
+    requires pen { IsShownPen (abilities update.now.scene.profile.now) update.now.memory.now.state.pen → ⊥ }
     ensures { IfOk result (IsPlan update.now.scene.profile.now update.now.memory.now update.now.wanted.now) }
 {
-    plans_are_made();
-    joined_is_cheap();
-    let _profile = update.scene.profile.size();
-    let _memory = update.memory.size();
-    let _wanted = update.wanted.size();
-    let mut changes = Changes::new(alloc);
-    update.find_changes(&mut changes)?;
-    if is_nothing_left(update, changes.as_slice()) {
-        return Ok(Ops(Vec::new(alloc)));
+    if wants_changes_alone(update.memory, update.wanted) {
+        return nothing(alloc, update);
     }
-    paint_changes(alloc, update, changes.as_slice())
+    sure_anew(alloc, update)
 }
 
-// Whether no row differs, and the cursor is where it is wanted.
-pub(crate) fn is_nothing_left(update: &Update<'_>, changes: &[RowChange]) -> bool
-    requires changes { AreChanges update.now.scene.profile.now update.now.wanted.now.picture update.now.memory.now changes.now update.now.wanted.now.picture.rows }
-    ensures { result ≡ (is_none_left (differing update.now.scene.profile.now update.now.wanted.now.picture update.now.memory.now) && is_placed update.now.memory.now update.now.wanted.now.picture.wish) }
-{
-    let _wanted = update.wanted.size();
-    let _memory = update.memory.size();
-    changes.is_empty() && update.memory.is_placed(update.wanted.picture().wish())
-}
-
-// Paints the rows that differ, in the shorter of two ways.
-fn paint_changes(alloc: Global, update: &Update<'_>, changes: &[RowChange]) -> Result<Ops, NoMemory>
-    requires update { IsUpdate update.now }
-    requires due { (is_known update.now.memory.now && not update.now.wanted.now.repaint) ≡ true }
-    requires known { is_known update.now.memory.now ≡ true }
-    requires changes { AreChanges update.now.scene.profile.now update.now.wanted.now.picture update.now.memory.now changes.now update.now.wanted.now.picture.rows }
-    requires some { (is_none_left (differing update.now.scene.profile.now update.now.wanted.now.picture update.now.memory.now) && is_placed update.now.memory.now update.now.wanted.now.picture.wish) ≡ false }
-    requires pen { IsShownPen (abilities update.now.scene.profile.now) update.now.memory.now.state.pen }
-    ensures { IfOk result (IsPlan update.now.scene.profile.now update.now.memory.now update.now.wanted.now) }
-{
-    plans_are_made();
-    joined_is_cheap();
-    known_memories();
-    memory_runs();
-    run_laws();
-    profiles_have();
-    grid_laws::<Look>();
-    let _profile = update.scene.profile.size();
-    let _memory = update.memory.size();
-    let _wanted = update.wanted.size();
-    let draft = short_changes(alloc, update, changes)?;
-    let (bytes, ops) = bytes_of_joined(update, changes, draft.ops, draft.bytes)?;
-    let draft = Draft { ops, ..draft };
-    if draft.is_worth(bytes, update.wanted.size()) {
-        return Ok(Ops(draft.ops));
-    }
-    joined_by(alloc, update, changes)
-}
-
-// The plan if not all is known, or the whole screen is to be painted anew.
-#[inline(never)]
-pub(crate) fn anew_or_partly(alloc: Global, update: &Update<'_>) -> Result<Ops, NoMemory>
+// What clears the screen, and the joined repaint of it: the plan that needs no check if not all is known, or the whole
+// screen is to be painted anew.
+pub(crate) fn sure_anew(alloc: Global, update: &Update<'_>) -> Result<Ops, NoMemory>
     requires update { IsUpdate update.now }
     requires due { (is_known update.now.memory.now && not update.now.wanted.now.repaint) ≡ false }
     ensures { IfOk result (IsPlan update.now.scene.profile.now update.now.memory.now update.now.wanted.now) }
 {
-    let whole = anew(alloc, update)?;
-    if update.wanted.repaint() || !may_be(update.scene.profile, update.memory) {
-        return Ok(whole);
-    }
-    if is_clearing_best(update.scene.profile, update.memory) {
-        return Ok(whole);
-    }
-    partly_if_shorter(alloc, update, whole)
-}
-
-// The plan that erases and paints the rows that are not known, and paints what differs in the
-// others, if it is shorter than `whole`, which clears the screen.
-fn partly_if_shorter(alloc: Global, update: &Update<'_>, whole: Ops) -> Result<Ops, NoMemory>
-    requires update { IsUpdate update.now }
-    requires due { (is_known update.now.memory.now && not update.now.wanted.now.repaint) ≡ false }
-    requires calm { update.now.wanted.now.repaint ≡ false }
-    requires pen { IsShownPen (abilities update.now.scene.profile.now) update.now.memory.now.state.pen }
-    requires plan { IsPlan update.now.scene.profile.now update.now.memory.now update.now.wanted.now whole }
-    ensures { IfOk result (IsPlan update.now.scene.profile.now update.now.memory.now update.now.wanted.now) }
-{
-    run_laws();
-    profiles_have();
-    memory_runs();
-    grid_laws::<Look>();
-    let _profile = update.scene.profile.size();
-    let _memory = update.memory.size();
-    let size = update.wanted.size();
-    let Some(draft) = short_partly(alloc, update)? else {
-        return Ok(whole);
-    };
-    if draft.is_worth(price_of(update.scene.profile, &whole.0), size) {
-        return Ok(Ops(draft.ops));
-    }
-    Ok(whole)
-}
-
-// Paints the whole screen anew: clears it, and paints what is not blank.
-fn anew(alloc: Global, update: &Update<'_>) -> Result<Ops, NoMemory>
-    requires update { IsUpdate update.now }
-    requires due { (is_known update.now.memory.now && not update.now.wanted.now.repaint) ≡ false }
-    ensures { IfOk result (IsPlan update.now.scene.profile.now update.now.memory.now update.now.wanted.now) }
-{
-    run_laws();
-    profiles_have();
     plans_are_made();
-    joined_is_cheap();
-    plans_are_remembered();
-    grid_laws::<Look>();
     let _profile = update.scene.profile.size();
     let _memory = update.memory.size();
     let _wanted = update.wanted.size();
-    let scene = &update.scene;
-    let draft = short_anew(alloc, scene)?;
-    let bytes = bytes_anew(alloc, scene)?;
-    if draft.is_worth(bytes, scene.picture.size()) {
-        return Ok(Ops(draft.ops));
-    }
-    joined_anew(alloc, scene)
+    joined_anew(alloc, &update.scene)
 }
 
 // No operations, where all is known and no terminal of the profile can have the remembered pen.

@@ -1,5 +1,5 @@
 -- Making the joined repaint, row by row.
-use Rattle.std.specs.Prelude.{ℕ, ◌≡◌, ◌+◌, ◌-◌, ◌^◌, min, Bool, false, true, ◌<◌, ◌≤◌, List, All, drop, take, ◌++◌, length, Option, Some, None}
+use Rattle.std.specs.Prelude.{ℕ, suc, zero, ◌≡◌, ◌+◌, ◌-◌, ◌^◌, min, Bool, false, true, ◌<◌, ◌≤◌, List, All, drop, take, ◌++◌, length, Option, Some, None}
 use Rattle.scr_cells.specs.LookViews.{LookView}
 use Rattle.scr_cells.specs.PenViews.{PenView}
 use Rattle.scr_cells.specs.PictureViews.{PictureView}
@@ -9,11 +9,12 @@ use Rattle.scr_term.specs.declared.operations.operation.Spot.TheVariants.{At}
 use Rattle.scr_term.specs.Operations.Profiles.{ProfileView, abilities}
 use Rattle.scr_term.specs.Operations.States.{TerminalState, IsState}
 use Rattle.scr_term.specs.Operations.Steps.{runs}
-use Rattle.scr_term.specs.Operations.Texts.{all_bytes, has}
+use Rattle.scr_term.specs.Operations.Texts.{all_bytes, bytes_of, has, put_of}
 use Rattle.scr_cells.specs.Showing.{shown_in}
 use Rattle.scr_memory.specs.Memories.{MemoryView, is_known_row}
 use Rattle.scr_plan.specs.Repaints.{erased_column, joined_place, look_in, without_idle}
-use Rattle.scr_plan.specs.declared.strokes.Draft.{Draft}
+use Rattle.scr_plan.specs.Scratch.{look_at}
+use Rattle.scr_plan.specs.declared.drafts.Draft.{Draft}
 
 -- a row is known to show these looks
 pub record ShowsRow (memory : MemoryView) (row : ℕ) (before : Option (List LookView)) : Type 0 where
@@ -56,6 +57,15 @@ pub record IsCounted (profile : ProfileView) (old new : Draft) (begun : ℕ) (sp
   pub spot_is : new.spot ≡ spot
   pub pen_is : new.pen ≡ pen
 
+-- a draft with these operations more, kept where that is asked for, and counted, and with this spot and this pen
+pub record IsAdded (profile : ProfileView) (old new : Draft) (more : List Op) (spot : Spot) (pen : PenView) : Type 0 where
+  pub keeps : new.keeps ≡ old.keeps
+  pub ops : old.keeps ≡ true → new.ops.items ≡ old.ops.items ++ more
+  pub left : old.keeps ≡ false → new.ops.items ≡ old.ops.items
+  pub bytes : All (λ op. has profile op ≡ true) more → new.bytes ≡ counted_up (old.bytes + length (all_bytes profile more))
+  pub spot_is : new.spot ≡ spot
+  pub pen_is : new.pen ≡ pen
+
 -- after a place that was painted the cursor is in the next one, and the pen is still on
 abbrev pub IsAfter : ℕ → Draft → ℕ → ℕ → Option PenView → Type 0
 IsAfter columns joining row column None = Unit {0}
@@ -64,3 +74,11 @@ IsAfter columns joining row column (Some pen) = (joining.pen ≡ pen) × (column
 -- a place of the joined repaint
 abbrev pub joined_at : ProfileView → PictureView → MemoryView → ℕ × ℕ → List Op
 joined_at profile picture memory place = joined_place profile picture memory (erased_column profile picture memory place.0) place.0 place.1
+
+-- how many bytes the character has that is seen in a place, and those that are seen in n places of a row
+abbrev pub place_bytes : ProfileView → PictureView → ℕ → ℕ → ℕ
+place_bytes profile picture r c = length (bytes_of profile (put_of (look_at profile picture (r, c)).character))
+
+abbrev pub run_bytes : ProfileView → PictureView → ℕ → ℕ → ℕ → ℕ
+run_bytes profile picture r from zero = 0
+run_bytes profile picture r from (suc n) = run_bytes profile picture r from n + place_bytes profile picture r (from + n)

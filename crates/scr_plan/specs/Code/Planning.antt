@@ -1,14 +1,11 @@
 -- Which columns a plan looks at, and which rows differ there.
-use Rattle.std.specs.Prelude.{ℕ, ◌≡◌, ◌+◌, ◌<◌, ◌≤◌, ◌⊎◌, ◌++◌, ltb, false, true, zero, suc, length, List, Option, None, slice_index_or, if◌then◌else◌}
+use Rattle.std.specs.Prelude.{ℕ, ◌≡◌, ◌+◌, ◌<◌, ◌≤◌, ◌⊎◌, ltb, false, true, zero, suc, length, List, Option, None, slice_index_or, if◌then◌else◌}
 use Rattle.scr_cells.specs.PictureViews.{PictureView}
-use Rattle.scr_term.specs.declared.operations.operation.Op.{Op}
 use Rattle.scr_term.specs.Operations.Profiles.{ProfileView}
-use Rattle.scr_term.specs.Operations.States.{blank_state}
 use Rattle.scr_virtual.specs.VirtualViews.{VirtualView, altered_at, range_at}
 use Rattle.scr_memory.specs.Memories.{MemoryView}
-use Rattle.scr_prices.specs.declared.rows.RowChange.{RowChange}
-use Rattle.scr_plan.specs.Repaints.{cleared, differs, joined_places, without_idle}
-use Rattle.scr_plan.specs.Scratch.{places_cursor, resets}
+use Rattle.scr_planner.specs.declared.rows.RowChange.{RowChange}
+use Rattle.scr_plan.specs.Repaints.{differs}
 use Rattle.scr_plan.specs.declared.looked.Looked.{Looked}
 use Rattle.scr_plan.specs.declared.looked.Looked.TheVariants.{Altered, Changed}
 
@@ -52,7 +49,3 @@ pub record AreChanges (profile : ProfileView) (picture : PictureView) (memory : 
   pub order : (k : ℕ) → k < length changes → row_after changes k ≤ (change_at changes k).row
   pub same : (k r : ℕ) → k ≤ length changes → row_after changes k ≤ r → r < row_at changes end k → IsSameRow profile picture memory r
   pub last : row_after changes (length changes) ≤ end
-
--- the joined repaint of a cleared screen, after what clears it
-abbrev pub painted_anew : ProfileView → PictureView → List Op
-painted_anew profile picture = without_idle profile (blank_state profile.rows profile.columns) (joined_places profile picture (cleared picture) ++ resets profile ++ places_cursor picture.wish)

@@ -1,6 +1,6 @@
 use Rattle.std.proofs.Common.{rules, subst, sym, [], ◌≡◌}
 use Rattle.scr_plan.specs.Plans.{IsPlan}
-use Rattle.scr_plan.proofs.ShortPlanLaws.{never_plan}
+use Rattle.scr_plan.proofs.PlanLaws.{never_plan}
 use Rattle.scr_plan.proofs.plans.nothing.Goals as goal
 
 pub returns : goal.returns

@@ -1,5 +1,5 @@
 use Rattle.std.proofs.Common.{◌≡◌, ◌-◌, ◌*◌, ◌≤◌}
-use Rattle.scr_plan.specs.Code.Drafts.{run_bytes}
+use Rattle.scr_plan.specs.Code.Joinings.{run_bytes}
 use Rattle.scr_plan.proofs.scenes.Scene.encoded_bytes.Given as goal
 
 -- the bytes of the characters as far as the loop has come

@@ -8,7 +8,7 @@ use Rattle.scr_term.specs.Operations.Profiles.{abilities}
 use Rattle.scr_term.specs.Operations.States.{TerminalState}
 use Rattle.scr_term.specs.Operations.Steps.{runs}
 use Rattle.scr_plan.proofs.CheckingLaws.{all_compared, marked_is_of, on_err, still_marked, unlike_is_no_plan}
-use Rattle.scr_plan.proofs.ShortPlanLaws.{state_of}
+use Rattle.scr_plan.proofs.PlanLaws.{state_of}
 use Rattle.scr_plan.proofs.SureLaws.{anew_plan}
 use Rattle.scr_plan.specs.Checks.{IsNoSurePlan, IsUnlike, ShowsMarked}
 use Rattle.scr_plan.proofs.scenes.Update.check_anew.Goals as goal

@@ -6,7 +6,7 @@ use Rattle.scr_term.specs.declared.operations.operation.Spot.TheVariants.{At}
 use Rattle.scr_term.specs.Operations.States.{TerminalState}
 use Rattle.scr_term.specs.Operations.Steps.{runs}
 use Rattle.scr_plan.proofs.CheckingLaws.{all_shown, known_plan, on_err, unlike_is_no_plan}
-use Rattle.scr_plan.proofs.ShortPlanLaws.{whole_of}
+use Rattle.scr_plan.proofs.PlanLaws.{whole_of}
 use Rattle.scr_plan.specs.Checks.{IsNoSurePlan, IsUnlike, ShowsMarked}
 use Rattle.scr_plan.proofs.scenes.Update.check_changes.Goals as goal
 

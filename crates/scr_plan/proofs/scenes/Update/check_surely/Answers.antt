@@ -7,7 +7,7 @@ use Rattle.scr_term.specs.declared.operations.operation.Spot.TheVariants.{At}
 use Rattle.scr_term.specs.Operations.Profiles.{abilities}
 use Rattle.scr_plan.proofs.CheckingLaws.{all_compared, marked_is_of, on_err, unlike_is_no_plan}
 use Rattle.scr_plan.proofs.RememberedPlanLaws.{agrees_itself}
-use Rattle.scr_plan.proofs.ShortPlanLaws.{state_of}
+use Rattle.scr_plan.proofs.PlanLaws.{state_of}
 use Rattle.scr_plan.proofs.SureLaws.{sure_plan}
 use Rattle.scr_plan.specs.Checks.{IsNoSurePlan, IsUnlike, ShowsMarked}
 use Rattle.scr_plan.proofs.scenes.Update.check_surely.Goals as goal

@@ -3,7 +3,7 @@ use Rattle.scr_memory.specs.Memories.{MayBe, MemoryView}
 use Rattle.scr_term.specs.Operations.Profiles.{abilities}
 use Rattle.scr_terminal.specs.Marks.{is_marked}
 use Rattle.scr_plan.proofs.CheckingLaws.{is_ahead}
-use Rattle.scr_plan.proofs.ShortPlanLaws.{state_of}
+use Rattle.scr_plan.proofs.PlanLaws.{state_of}
 use Rattle.scr_plan.proofs.scenes.Update.lead.Goals as goal
 
 pub returns : goal.returns

@@ -1,8 +1,0 @@
-use Rattle.scr_plan.proofs.ShiftLaws.{sent_nothing}
-use Rattle.scr_plan.proofs.strokes.Draft.shift.Goals as goal
-
-pub returns-in_default-clause-sent : goal.returns-in_default-clause-sent
-returns-in_default-clause-sent c = sent_nothing c.grid_laws.ensures c.args.update.now.scene.profile.now c.args.self.now
-
-pub returns-then-not-has-clause-sent : goal.returns-then-not-has-clause-sent
-returns-then-not-has-clause-sent c = sent_nothing c.grid_laws.ensures c.args.update.now.scene.profile.now c.args.self.now

@@ -1,5 +1,0 @@
-use Rattle.std.proofs.Common.{length, ◌-◌}
-use Rattle.scr_prices.proofs.blanks.price_on_blanks.Given as goal
-
-abbrev pub decreases-loop-column : goal.decreases-loop-column
-decreases-loop-column l = length l.cells - l.column
