@@ -1,3 +1,4 @@
+pub mod BoundLaws
 pub mod BriefLaws
 pub mod ChangedRowLaws
 pub mod JoinLaws

@@ -195,12 +195,31 @@ pub fn joined(
         profile,
         picture,
     };
+    Ok(Some(joined_on(alloc, &scene, memory)?))
+}
+
+// The joined repaint of a scene, where all is known.
+pub(crate) fn joined_on(
+    alloc: Global,
+    scene: &Scene<'_>,
+    memory: &Memory,
+) -> Result<Ops, NoMemory>
+    requires scene { IsScene scene.now }
+    requires size { IsSizeOf scene.now.picture.now memory.now }
+    requires known { is_known memory.now ≡ true }
+    requires pen { (is_there scene.now.profile.now Sgr0 ≡ true) ⊎ (is_plain_pen memory.now.state.pen ≡ true) }
+    ensures { IfOk result (λ ops. ops ≡ joined_of scene.now.profile.now memory.now scene.now.picture.now) }
+{
+    profiles_have();
+    let _profile = scene.profile.size();
+    let _memory = memory.size();
+    let _picture = scene.picture.size();
     let mut changes = Changes::new(alloc);
     scene.find_all(memory, &mut changes)?;
-    if is_shown(&scene, memory, changes.as_slice()) {
-        return Ok(Some(Ops(Vec::new(alloc))));
+    if is_shown(scene, memory, changes.as_slice()) {
+        return Ok(Ops(Vec::new(alloc)));
     }
-    Ok(Some(joined_from(alloc, &scene, memory, changes.as_slice())?))
+    joined_from(alloc, scene, memory, changes.as_slice())
 }
 
 // Whether no row differs, and the cursor is where it is wanted.

@@ -169,15 +169,9 @@ fn alike_after(cells: &[Cell], column: usize) -> usize
     let first = cells[column];
     for after in column + 1..cells.len() {
         let cell = cells[after];
-        if !are_alike(first, cell) || (cell.code() == BLANK) != (first.code() == BLANK) {
+        if !first.has_rendition_of(cell) || (cell.code() == BLANK) != (first.code() == BLANK) {
             return after;
         }
     }
     cells.len()
-}
-
-// Whether two cells have the same attributes and the same colour pair.
-#[inline(always)]
-fn are_alike(a: Cell, b: Cell) -> bool {
-    a.attrs() == b.attrs() && a.pair() == b.pair()
 }

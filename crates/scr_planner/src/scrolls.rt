@@ -45,6 +45,6 @@ pub(crate) fn price_of_scroll(prices: &Prices, spot: Spot, shift: Shift, rows: u
 }
 
 // The price of going to the first column of a row, and of an operation there.
-fn price_of_step(prices: &Prices, spot: Spot, row: u32, op: Op) -> u32 {
+pub(crate) fn price_of_step(prices: &Prices, spot: Spot, row: u32, op: Op) -> u32 {
     price_of_motion(prices, spot, row, 0).saturating_add(prices.of(op))
 }

@@ -3,11 +3,10 @@
 
 use crate::blanks::is_blank;
 use crate::counts::Counts;
-use crate::motions::cheapest_motion;
 use crate::rows::RowChange;
 use crate::samples::{Distance, Samples, can_move_lines, can_scroll, can_shift};
 use crate::scenes::{Scene, Update};
-use crate::scrolls::price_of_scroll;
+use crate::scrolls::{price_of_scroll, price_of_step};
 use crate::slides::are_blank;
 use crate::ways::Cursor;
 use scr_cells::NoMemory;
@@ -360,31 +359,26 @@ impl Blocks<'_> {
         let inner = shift.end.saturating_sub(shift.count);
         let deleted = Op::DeleteLines(shift.count);
         let inserted = Op::InsertLines(shift.count);
-        let is_last = shift.end >= self.scene().picture.size().rows;
+        let scene = self.scene();
+        let prices = scene.prices;
+        let is_last = shift.end >= scene.rows;
         if shift.up {
-            let first = self.price_of_step(spot, shift.top, deleted);
+            let first = price_of_step(prices, spot, shift.top, deleted);
             if is_last {
                 first
             } else {
-                first.saturating_add(self.price_of_step(Spot::At(shift.top, 0), inner, inserted))
+                first.saturating_add(price_of_step(prices, Spot::At(shift.top, 0), inner, inserted))
             }
         } else if is_last {
-            self.price_of_step(spot, shift.top, inserted)
+            price_of_step(prices, spot, shift.top, inserted)
         } else {
-            self.price_of_step(spot, inner, deleted).saturating_add(self.price_of_step(
+            price_of_step(prices, spot, inner, deleted).saturating_add(price_of_step(
+                prices,
                 Spot::At(inner, 0),
                 shift.top,
                 inserted,
             ))
         }
-    }
-
-    // The price of going to the first column of a row, and of an operation there.
-    fn price_of_step(&self, spot: Spot, row: u32, op: Op) -> u32 {
-        let scene = self.scene();
-        cheapest_motion(scene.prices, spot, row, 0)
-            .price
-            .saturating_add(scene.prices.of(op))
     }
 }
 
