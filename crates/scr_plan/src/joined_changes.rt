@@ -199,11 +199,7 @@ pub fn joined(
 }
 
 // The joined repaint of a scene, where all is known.
-pub(crate) fn joined_on(
-    alloc: Global,
-    scene: &Scene<'_>,
-    memory: &Memory,
-) -> Result<Ops, NoMemory>
+pub(crate) fn joined_on(alloc: Global, scene: &Scene<'_>, memory: &Memory) -> Result<Ops, NoMemory>
     requires scene { IsScene scene.now }
     requires size { IsSizeOf scene.now.picture.now memory.now }
     requires known { is_known memory.now ≡ true }

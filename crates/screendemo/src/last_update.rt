@@ -194,7 +194,5 @@ fn follow(profile: &Profile, ops: &Ops, terminal: &mut Terminal) {
 /// Executes an operation on a terminal, and returns whether it is defined there and the terminal has the profile's size.
 pub fn step(profile: &Profile, op: Op, terminal: &mut Terminal) -> bool {
     let (size, other) = (profile.size(), terminal.size());
-    size.rows == other.rows
-        && size.columns == other.columns
-        && terminal.step(profile, op).is_ok()
+    size.rows == other.rows && size.columns == other.columns && terminal.step(profile, op).is_ok()
 }

@@ -173,7 +173,11 @@ fn asked_in(alloc: Global, version: &str, words: &[String]) -> Result<Request, c
 }
 
 // The file that an option names.
-fn file_in(alloc: Global, matches: &ArgMatches, option: &str) -> Result<Option<String>, AllocError> {
+fn file_in(
+    alloc: Global,
+    matches: &ArgMatches,
+    option: &str,
+) -> Result<Option<String>, AllocError> {
     match matches.get_str(option) {
         Some(file) => Ok(Some(file.to_string(alloc)?)),
         None => Ok(None),

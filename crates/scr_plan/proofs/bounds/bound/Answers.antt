@@ -17,7 +17,7 @@ returns-then-wants_changes_alone c =
     let joined = joined_of profile memory wanted.picture in
     let scratch = scratch_of profile wanted.picture in
     let had : All (λ op. has profile op ≡ true) joined =
-        joined_had c.joined_shows.ensures c.run_laws.ensures profile c.size-profile.ensures.profile wanted.picture c.size-wanted.ensures.screen.picture c.requires.fits memory (search rules) c.requires.possible (search rules) in
+    joined_had c.joined_shows.ensures c.run_laws.ensures profile c.size-profile.ensures.profile wanted.picture c.size-wanted.ensures.screen.picture c.requires.fits memory (search rules) c.requires.possible (search rules) in
     let same : c.deref.result.now ≡ joined = search rules in
     let due : (is_known memory && not wanted.repaint) ≡ true = search rules in
     c.price_of.ensures (subst (All (λ op. has profile op ≡ true)) (sym same) had) ∙ ap most same ∙ sym (ap (λ b. most (if b then joined else scratch)) due)
@@ -31,7 +31,7 @@ returns c =
     let joined = joined_of profile memory wanted.picture in
     let scratch = scratch_of profile wanted.picture in
     let had : All (λ op. has profile op ≡ true) scratch =
-        scratch_had c.scratch_shows.ensures c.run_laws.ensures c.blank_laws.ensures profile c.size-profile.ensures.profile wanted.picture c.size-wanted.ensures.screen.picture c.requires.fits in
+    scratch_had c.scratch_shows.ensures c.run_laws.ensures c.blank_laws.ensures profile c.size-profile.ensures.profile wanted.picture c.size-wanted.ensures.screen.picture c.requires.fits in
     let same : c.deref-2.result.now ≡ scratch = search rules in
     let due : (is_known memory && not wanted.repaint) ≡ false = search rules in
     c.price_of-2.ensures (subst (All (λ op. has profile op ≡ true)) (sym same) had) ∙ ap most same ∙ sym (ap (λ b. most (if b then joined else scratch)) due)
