@@ -1,14 +1,15 @@
 //! The check of operations that a program chose itself for an update.
-ghost use Rattle.std.specs.Prelude.{◌≡◌, ◌^◌, ◌-◌, ◌<◌, ⊥, IsErrOf, OnOk, length};
-ghost use Rattle.scr_term.specs.Operations.Texts.{all_bytes};
-ghost use Rattle.scr_plan.specs.Checks.{IsSurePlan};
-ghost use Rattle.scr_plan.specs.Plans.{IsPlan, bound_of};
+ghost use Rattle.std.specs.Prelude.{◌≡◌, IsErrOf, OnOk};
+ghost use Rattle.scr_memory.specs.Spares.{IsReady};
+ghost use Rattle.scr_plan.specs.Checks.{IsUnlikely};
+ghost use Rattle.scr_plan.specs.Plans.{IsPlan};
+ghost use Rattle.curses.specs.ScreenStates.{IsRemembered};
 
-use crate::faults::CheckFault;
 use crate::screens::Screen;
-use scr_memory::{known_memories, spare_laws};
-use scr_plan::{NotAPlan, bound, check};
-use scr_term::Op;
+use scr_memory::{Memory, Spare};
+use scr_plan::{CheckFault, NotAPlan, check_whole};
+use scr_term::{Op, Profile};
+use scr_virtual::Virtual;
 use std::alloc::Global;
 
 impl Screen {
@@ -21,26 +22,36 @@ impl Screen {
         ensures same { self.new ≡ self.old }
         ensures plan { OnOk result (IsPlan self.old.profile self.old.memory self.old.virtual ops.now) }
         ensures exact { (fault : NotAPlan) → IsErrOf result (CheckFault.NotAPlan fault)
-            → length (all_bytes self.old.profile (bound_of self.old.profile self.old.memory self.old.virtual)) < 2 ^ 64 - 1
-            → IsSurePlan self.old.profile self.old.memory self.old.virtual ops.now → ⊥ }
+            → IsUnlikely self.old.profile self.old.memory self.old.virtual ops.now }
     {
-        known_memories();
-        spare_laws();
-        let _profile = self.profile.size();
-        let _wanted = self.wanted.size();
-        let most = bound(alloc, &self.profile, &self.memory, &self.wanted)?;
-        let checked = check(
+        checked(
+            alloc,
             &self.profile,
             &self.memory,
             &self.wanted,
             &mut self.spare,
             ops,
-            most,
-        );
-        self.spare.back(&self.memory);
-        match checked {
-            Ok(()) => Ok(()),
-            Err(fault) => Err(CheckFault::NotAPlan(fault)),
-        }
+        )
     }
+}
+
+// Whether these operations bring a terminal to a picture as an update does.
+fn checked(
+    alloc: Global,
+    profile: &Profile,
+    memory: &Memory,
+    wanted: &Virtual,
+    spare: &mut Spare,
+    ops: &[Op],
+) -> Result<(), CheckFault>
+    requires remembered { IsRemembered profile.now memory.now wanted.now }
+    requires ready { IsReady memory.now spare.old }
+    ensures plan { OnOk result (IsPlan profile.now memory.now wanted.now ops.now) }
+    ensures exact { (fault : NotAPlan) → IsErrOf result (CheckFault.NotAPlan fault)
+        → IsUnlikely profile.now memory.now wanted.now ops.now }
+    ensures ready { IsReady memory.now spare.new }
+{
+    let _profile = profile.size();
+    let _wanted = wanted.size();
+    check_whole(alloc, profile, memory, wanted, spare, ops)
 }

@@ -1,6 +1,5 @@
 //! The errors of opening, updating, starting and closing a screen, and what an update that ended well has sent.
 use scr_cells::NoMemory;
-use scr_plan::NotAPlan;
 use scr_term::{Ops, ProfileFault};
 use std::alloc::{AllocError, AllocFailed};
 use std::io::ErrorKind;
@@ -59,17 +58,6 @@ pub enum UpdateFault {
         /// The kind of the error that the flush gave.
         kind: ErrorKind,
     },
-}
-
-/// Why operations are not let through as an update.
-#[derive(Clone, Copy, Debug, PartialEq, Eq, Error)]
-pub enum CheckFault {
-    /// They are no plan, or cannot be seen to be one, for this reason.
-    #[error("{0}")]
-    NotAPlan(NotAPlan),
-    /// Memory ran out.
-    #[error("out of memory")]
-    NoMemory,
 }
 
 /// Why `start` or `close` did not send everything. Windows, virtual screen and requested repaints stay as they were.
@@ -135,17 +123,5 @@ impl<T: Drop> From<AllocFailed<T>> for OpenFault {
 
     fn from(_e: AllocFailed<T>) -> OpenFault {
         OpenFault::NoMemory
-    }
-}
-
-/// Running out of memory is the one error that the call underneath has.
-impl From<NoMemory> for CheckFault {
-    ghost use Rattle.std.specs.Prelude.{◌≡◌};
-    ghost use Rattle.curses.specs.declared.faults.CheckFault.TheVariants as faults;
-
-    ghost from_gives = { λ _ e. e ≡ faults.NoMemory };
-
-    fn from(_e: NoMemory) -> CheckFault {
-        CheckFault::NoMemory
     }
 }

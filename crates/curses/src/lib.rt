@@ -16,7 +16,7 @@ mod updates;
 mod writers;
 
 pub use adapted::AdaptedEntry;
-pub use faults::{CheckFault, OpenFault, SendFault, Sent, UpdateFault};
+pub use faults::{OpenFault, SendFault, Sent, UpdateFault};
 pub use opening::Opening;
 pub use screens::Screen;
 pub use starting::closing_laws;
@@ -27,7 +27,7 @@ pub use writers::{Counted, Device, Output};
 // test without a terminal the emulated one.
 pub use scr_cells::{Attrs, Cell, Charset, Look, NoMemory, Picture, Size, is_character};
 pub use scr_keys::{Key, KeyFault, KeySet, Typed, TypedItems, TypedReader, names as keys};
-pub use scr_plan::NotAPlan;
+pub use scr_plan::{CheckFault, NotAPlan};
 pub use scr_term::{Op, Ops, ProfileFault, Spot};
 pub use scr_terminal::{EcmaScreen, Undefined};
 pub use scr_windows::{Added, BOX, DOUBLE_BOX, ROUND_BOX, Win, WinFault, WindowRef};

@@ -37,6 +37,11 @@ abbrev pub IsNoSurePlan : ProfileView → MemoryView → VirtualView → ℕ →
 IsNoSurePlan profile memory virtual bound ops =
     MayBe (abilities profile) memory → IsWholeBound profile memory virtual bound → IsSurePlan profile memory virtual ops → ⊥
 
+-- The operations are no plan that can be seen to be one, where its bound is below the greatest number.
+abbrev pub IsUnlikely : ProfileView → MemoryView → VirtualView → List Op → Type 0
+IsUnlikely profile memory virtual ops =
+    length (all_bytes profile (bound_of profile memory virtual)) < 2 ^ 64 - 1 → IsSurePlan profile memory virtual ops → ⊥
+
 -- The spare is ahead of the memory by these operations: it shows what is remembered after them, and all is known then.
 pub record IsAhead (profile : ProfileView) (memory : MemoryView) (ops : List Op) (spare : SpareView) : Type 0 where
   pub of : IsSpareOf memory spare

@@ -1,12 +1,15 @@
-//! How many bytes an update sends at most.
-ghost use Rattle.std.specs.Prelude.{◌≡◌, ◌-◌, ◌^◌, IfOk, length, min};
+//! How many bytes an update sends at most, and the check of operations that have no more.
+ghost use Rattle.std.specs.Prelude.{◌≡◌, ◌-◌, ◌^◌, IfOk, IsErrOf, OnOk, length, min};
 ghost use Rattle.scr_term.specs.Operations.Profiles.{abilities};
 ghost use Rattle.scr_term.specs.Operations.Texts.{all_bytes};
 ghost use Rattle.scr_memory.specs.Memories.{MayBe};
-ghost use Rattle.scr_plan.specs.Plans.{bound_of};
-ghost use Rattle.scr_plan.specs.Repaints.{IsSizeOf};
+ghost use Rattle.scr_memory.specs.Spares.{IsReady};
+ghost use Rattle.scr_plan.specs.Checks.{IsUnlikely};
+ghost use Rattle.scr_plan.specs.Plans.{IsPlan, bound_of};
+ghost use Rattle.scr_plan.specs.Repaints.{IsSizeOf, IsUpToDate};
 ghost use Rattle.scr_plan.specs.Scratch.{Fits};
 
+use crate::checking::{CheckFault, NotAPlan, check};
 use crate::joined_changes::joined_on;
 use crate::joining::price_of;
 use crate::painting::{Painter, scratch};
@@ -15,8 +18,8 @@ use crate::plans::wants_changes_alone;
 use crate::scenes::Scene;
 use crate::scratch_laws::scratch_shows;
 use scr_cells::NoMemory;
-use scr_memory::Memory;
-use scr_term::{Profile, blank_laws, profiles_have, run_laws};
+use scr_memory::{Memory, Spare, spare_laws};
+use scr_term::{Op, Profile, blank_laws, profiles_have, run_laws};
 use scr_virtual::Virtual;
 use std::alloc::Global;
 
@@ -55,4 +58,38 @@ pub fn bound(
     }
     let ops = scratch(alloc, profile, wanted.picture())?;
     Ok(price_of(profile, &ops.0))
+}
+
+/// Whether operations could be sent as an update: whether they are a plan, with no more bytes than the update may have
+/// (`check`, with `bound`). The spare shows what is remembered before and after.
+///
+/// Refused: with `NotAPlan` and the reason; with `NoMemory`.
+pub fn check_whole(
+    alloc: Global,
+    profile: &Profile,
+    memory: &Memory,
+    wanted: &Virtual,
+    spare: &mut Spare,
+    ops: &[Op],
+) -> Result<(), CheckFault>
+    requires fits { Fits profile.now wanted.now.picture }
+    requires size { IsSizeOf wanted.now.picture memory.now }
+    requires possible { MayBe (abilities profile.now) memory.now }
+    requires same { IsUpToDate profile.now memory.now wanted.now }
+    requires ready { IsReady memory.now spare.old }
+    ensures plan { OnOk result (IsPlan profile.now memory.now wanted.now ops.now) }
+    ensures exact { (fault : NotAPlan) → IsErrOf result (CheckFault.NotAPlan fault) → IsUnlikely profile.now memory.now wanted.now ops.now }
+    ensures ready { IsReady memory.now spare.new }
+{
+    spare_laws();
+    let _profile = profile.size();
+    let _memory = memory.size();
+    let _wanted = wanted.size();
+    let most = bound(alloc, profile, memory, wanted)?;
+    let checked = check(profile, memory, wanted, spare, ops, most);
+    spare.back(memory);
+    match checked {
+        Ok(()) => Ok(()),
+        Err(fault) => Err(CheckFault::NotAPlan(fault)),
+    }
 }

@@ -21,7 +21,7 @@ use crate::painting::Painter;
 use crate::plan_laws::plans_are_remembered;
 use crate::plans::{may_be, wants_changes_alone};
 use crate::scenes::{Scene, Update};
-use scr_cells::{Look, Size, grid_laws};
+use scr_cells::{Look, NoMemory, Size, grid_laws};
 use scr_memory::{Memory, Spare, known_memories, memory_runs, spare_laws};
 use scr_term::{Op, Profile, profiles_have, run_laws};
 use scr_virtual::Virtual;
@@ -46,6 +46,29 @@ pub enum NotAPlan {
     /// The terminal does not show the picture after them, or its cursor is elsewhere.
     #[error("another picture")]
     Unlike,
+}
+
+/// Why operations are not let through as an update.
+#[derive(Clone, Copy, Debug, PartialEq, Eq, Error)]
+pub enum CheckFault {
+    /// They are no plan, or cannot be seen to be one, for this reason.
+    #[error("{0}")]
+    NotAPlan(NotAPlan),
+    /// Memory ran out.
+    #[error("out of memory")]
+    NoMemory,
+}
+
+/// Running out of memory is the one error that the calls underneath have.
+impl From<NoMemory> for CheckFault {
+    ghost use Rattle.std.specs.Prelude.{◌≡◌};
+    ghost use Rattle.scr_plan.specs.declared.checking.CheckFault.TheVariants as faults;
+
+    ghost from_gives = { λ _ e. e ≡ faults.NoMemory };
+
+    fn from(_e: NoMemory) -> CheckFault {
+        CheckFault::NoMemory
+    }
 }
 
 /// Checks that operations are a plan (`IsPlan`), whoever made them: they are tried on the spare, and what they change

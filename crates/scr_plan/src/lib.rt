@@ -20,9 +20,9 @@ mod scenes;
 mod scratch_laws;
 mod scratch_texts;
 
-pub use bounds::bound;
+pub use bounds::{bound, check_whole};
 pub use checked_plans::plan_checked;
-pub use checking::{NotAPlan, check};
+pub use checking::{CheckFault, NotAPlan, check};
 pub use joined_changes::joined;
 pub use painting::scratch;
 pub use plain_repaint::plain;
