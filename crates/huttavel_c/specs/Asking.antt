@@ -1,13 +1,10 @@
 -- The functions of the C library: each is one call on the screen that the handle holds.
-use Rattle.std.specs.Prelude.{ℕ, ◌≡◌, ◌⊎◌, Option, Some, None, Result, IsOk, MatchOption}
+use Rattle.std.specs.Prelude.{◌≡◌, ◌⊎◌, Option, Some, None, Result, IsOk, MatchOption}
 use Rattle.scr_keys.specs.Readers.{ReaderView}
 use Rattle.scr_memory.specs.Memories.{MemoryView}
 use Rattle.scr_virtual.specs.VirtualViews.{VirtualView}
 use Rattle.scr_windows.specs.DeskViews.{DeskView}
 use Rattle.curses.specs.ScreenStates.{ScreenState}
-use Rattle.scr_windows.specs.declared.faults.WinFault.{WinFault}
-use Rattle.huttavel_c.specs.Replies.{done_number}
-use Rattle.huttavel_c.specs.declared.handles.Handle.{Handle}
 use Rattle.huttavel_c.specs.declared.sessions.Described.{Described}
 use Rattle.huttavel_c.specs.declared.sessions.Kept.{Kept}
 use Rattle.huttavel_c.specs.declared.sessions.Kept.TheVariants.{Entry, Screen}
@@ -37,48 +34,20 @@ on_keys screen call = (record screen { keys = call.0 }, call.1)
 abbrev pub reading : {A : Type 0} → ScreenState → A → ScreenState × A
 reading screen answer = (screen, answer)
 
--- The same of a call on what it changes, or asks.
-abbrev pub on_desk : {A : Type 0} → (DeskView → DeskView × A) → ScreenState → ScreenState × A
-on_desk call screen = on_windows screen (call screen.desk)
-
-abbrev pub on_picture : {A : Type 0} → (VirtualView → VirtualView × A) → ScreenState → ScreenState × A
-on_picture call screen = on_virtual screen (call screen.virtual)
-
-abbrev pub on_picture_and_desk : {A : Type 0} → (VirtualView → DeskView → (VirtualView × DeskView) × A) → ScreenState → ScreenState × A
-on_picture_and_desk call screen = on_both screen (call screen.virtual screen.desk)
-
-abbrev pub asking : {A : Type 0} → (ScreenState → A) → ScreenState → ScreenState × A
-asking ask screen = reading screen (ask screen)
-
--- The call is made on the screen that is held, and its answer is shown so. Nothing else that is held changes. Where no
--- screen is held this is given, and what is held stays as it is.
-abbrev pub AskedOf : {A B : Type 0} → (ScreenState → ScreenState × A) → (A → B) → B → Option Kept → Option Kept → B → Type 0
-AskedOf call shown closed None new answer = (new ≡ None) × (answer ≡ closed)
-AskedOf call shown closed (Some (Entry entry)) new answer = (new ≡ Some (Entry entry)) × (answer ≡ closed)
-AskedOf call shown closed (Some (Screen session)) new answer =
+-- The call is made on the screen that the handle holds, and its answer is shown so. Nothing else that the handle holds
+-- changes. Of a handle without a screen this is given, and it stays as it is.
+abbrev pub Asked : {A B : Type 0} → (ScreenState → ScreenState × A) → (A → B) → B → Option Kept → Option Kept → B → Type 0
+Asked call shown closed None new answer = (new ≡ None) × (answer ≡ closed)
+Asked call shown closed (Some (Entry entry)) new answer = (new ≡ Some (Entry entry)) × (answer ≡ closed)
+Asked call shown closed (Some (Screen session)) new answer =
     (new ≡ Some (Screen (record session { screen = (call session.screen).0 }))) × (answer ≡ shown (call session.screen).1)
 
 -- The same; or memory ran out in a call that nothing else refuses, and all stays as it was.
-abbrev pub AskedOfForMemory : {A E B : Type 0} → (ScreenState → ScreenState × Result A E) → (Result A E → B) → B → B → Option Kept → Option Kept → B → Type 0
-AskedOfForMemory call shown none closed None new answer = (new ≡ None) × (answer ≡ closed)
-AskedOfForMemory call shown none closed (Some (Entry entry)) new answer = (new ≡ Some (Entry entry)) × (answer ≡ closed)
-AskedOfForMemory call shown none closed (Some (Screen session)) new answer =
-    AskedOf call shown closed (Some (Screen session)) new answer ⊎ ((new ≡ Some (Screen session)) × (answer ≡ none) × IsOk (call session.screen).1)
-
--- The call is made on the screen that a handle holds.
-abbrev pub Asked : {A B : Type 0} → (ScreenState → ScreenState × A) → (A → B) → B → Handle → Handle → B → Type 0
-Asked call shown closed old new answer = AskedOf call shown closed old.held.value new.held.value answer
-
-abbrev pub AskedForMemory : {A E B : Type 0} → (ScreenState → ScreenState × Result A E) → (Result A E → B) → B → B → Handle → Handle → B → Type 0
-AskedForMemory call shown none closed old new answer = AskedOfForMemory call shown none closed old.held.value new.held.value answer
-
--- A call without a result: the answer is 0, why it was refused, or 1 where the handle holds no screen.
-abbrev pub Done : (ScreenState → ScreenState × Result (Unit {0}) WinFault) → Handle → Handle → ℕ → Type 0
-Done call old new answer = Asked call done_number 1 old new answer
-
--- The same, or 4 where memory ran out.
-abbrev pub DoneWithMemory : (ScreenState → ScreenState × Result (Unit {0}) WinFault) → Handle → Handle → ℕ → Type 0
-DoneWithMemory call old new answer = AskedForMemory call done_number 4 1 old new answer
+abbrev pub AskedForMemory : {A E B : Type 0} → (ScreenState → ScreenState × Result A E) → (Result A E → B) → B → B → Option Kept → Option Kept → B → Type 0
+AskedForMemory call shown none closed None new answer = (new ≡ None) × (answer ≡ closed)
+AskedForMemory call shown none closed (Some (Entry entry)) new answer = (new ≡ Some (Entry entry)) × (answer ≡ closed)
+AskedForMemory call shown none closed (Some (Screen session)) new answer =
+    Asked call shown closed (Some (Screen session)) new answer ⊎ ((new ≡ Some (Screen session)) × (answer ≡ none) × IsOk (call session.screen).1)
 
 -- What is held is a screen of which this holds, or an entry.
 abbrev pub OfScreen : (Session → Type 0) → Kept → Type 0
@@ -88,10 +57,6 @@ OfScreen IsSo (Entry entry) = ⊥
 abbrev pub OfEntry : (Described → Type 0) → Kept → Type 0
 OfEntry IsSo (Screen session) = ⊥
 OfEntry IsSo (Entry entry) = IsSo entry
-
--- What is held is a screen of which this holds; or it is an entry, and that holds.
-abbrev pub OfScreenOr : (Session → Type 0) → Type 0 → Kept → Type 0
-OfScreenOr IsSo IsElse kept = OfScreen IsSo kept ⊎ (OfEntry (λ _. Unit {0}) kept × IsElse)
 
 -- The screen that a handle holds changes so, and this is the answer. Of a handle without a screen this is given, and it
 -- stays as it is.

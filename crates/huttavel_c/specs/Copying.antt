@@ -9,8 +9,6 @@ use Rattle.huttavel_c.specs.Replies.{given_cell, no_length}
 use Rattle.huttavel_c.specs.declared.answers.GivenCell.{GivenCell}
 use Rattle.huttavel_c.specs.declared.answers.Length.{Length}
 use Rattle.huttavel_c.specs.declared.sessions.Session.{Session}
-use Rattle.huttavel_c.specs.declared.sessions.Kept.{Kept}
-use Rattle.huttavel_c.specs.Asking.{OfScreenOr}
 
 -- The cells of a row from a column on; there has to be one.
 abbrev pub cells_from : Result (List CellView) WinFault → ℕ → Result (List CellView) WinFault
@@ -28,8 +26,3 @@ IsGiven (Ok cells) before after answer =
 abbrev pub CopiesCells : (window row column : ℕ) → List GivenCell → List GivenCell → Session → Session → Length → Type 0
 CopiesCells window row column before after old new answer =
     (new ≡ old) × IsGiven (cells_from (row_answer old.screen.desk window row) column) before after answer
-
--- The same of what a handle holds; of an entry nothing is copied.
-abbrev pub CopiesCellsOf : (window row column : ℕ) → List GivenCell → List GivenCell → Kept → Length → Type 0
-CopiesCellsOf window row column before after kept answer =
-    OfScreenOr (λ session. CopiesCells window row column before after session session answer) ((answer ≡ no_length 1) × (after ≡ before)) kept

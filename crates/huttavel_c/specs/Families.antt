@@ -1,29 +1,23 @@
 -- The calls that one function of the library makes, by a number: the first is 0, and a greater number than the last is
 -- the last.
-use Rattle.std.specs.Prelude.{ℕ, ℤ, ◌==◌, ◌∷◌, [], Bool, true, false, not, Result, if◌then◌else◌}
-use Rattle.scr_term.specs.Operations.Profiles.{ProfileView, has_colours, shown_set}
+use Rattle.std.specs.Prelude.{ℕ, ◌==◌, true, false, not, Result, if◌then◌else◌}
 use Rattle.scr_virtual.specs.Taking.{take_window_call}
-use Rattle.scr_windows.specs.Calls.Adding.{line_across_call, line_down_call}
-use Rattle.scr_windows.specs.Calls.Borders.{border_call}
-use Rattle.scr_windows.specs.Calls.Erasing.{clear_call, clear_to_bottom_call, clear_to_eol_call, erase_call}
+use Rattle.scr_windows.specs.Calls.Erasing.{clear_call, clear_to_bottom_call, erase_call}
 use Rattle.scr_windows.specs.Calls.Making.{new_pad_call, new_window_call}
 use Rattle.scr_windows.specs.Calls.Moving.{move_derived_call, move_window_call}
-use Rattle.scr_windows.specs.Calls.Reading.{cursor_answer, origin_answer, size_answer, window_answer}
+use Rattle.scr_windows.specs.Calls.Reading.{cursor_answer, origin_answer, size_answer}
 use Rattle.scr_windows.specs.Calls.Removing.{delete_call}
-use Rattle.scr_windows.specs.Calls.Scrolling.{delete_byte_call, insert_delete_lines_call, scroll_call}
 use Rattle.scr_windows.specs.Calls.Settings.{attr_off_call, attr_on_call, attr_set_call, clear_ok_call, leave_ok_call, scroll_ok_call}
 use Rattle.scr_windows.specs.Calls.Subwindows.{derive_call, sub_call, sub_pad_call}
 use Rattle.scr_windows.specs.Calls.Syncing.{sync_down_call, sync_up_call}
 use Rattle.scr_windows.specs.Calls.Touching.{touch_lines_call}
 use Rattle.scr_windows.specs.DeskViews.{DeskView}
-use Rattle.scr_windows.specs.Lending.{LentView}
 use Rattle.scr_windows.specs.declared.faults.Win.{Win}
 use Rattle.scr_windows.specs.declared.faults.WinFault.{WinFault}
 use Rattle.curses.specs.Refreshing.{lines_disturbed, redraw_lines_call, redraw_window_call, window_disturbed}
 use Rattle.curses.specs.ScreenStates.{ScreenState}
 use Rattle.huttavel_c.specs.Asking.{on_both, on_terminal, on_windows}
-use Rattle.huttavel_c.specs.Lending.{lent_reply}
-use Rattle.huttavel_c.specs.Replies.{as_number, pair_reply}
+use Rattle.huttavel_c.specs.Replies.{pair_reply}
 use Rattle.huttavel_c.specs.declared.answers.Reply.{Reply}
 
 -- What a call leaves of a screen, and its answer.
@@ -76,28 +70,3 @@ window_reply kind window desk =
     if kind == 0 then pair_reply (size_answer desk window) else
     if kind == 1 then pair_reply (cursor_answer desk window) else
     pair_reply (origin_answer desk window)
-
--- A character deleted at the cursor, or the line from there on erased.
-abbrev pub line_call : Bool → ℕ → DeskView → DeskView × Result (Unit {0}) WinFault
-line_call deletes window desk = if deletes then delete_byte_call desk window else clear_to_eol_call desk window
-
--- Lines scrolled, or inserted and deleted at the cursor.
-abbrev pub lines_call : Bool → ℕ → ℤ → DeskView → DeskView × Result (Unit {0}) WinFault
-lines_call scrolls window n desk = if scrolls then scroll_call desk window n else insert_delete_lines_call desk window n
-
--- A line of a byte, down or to the right.
-abbrev pub byte_line_call : Bool → ℕ → ℕ → ℕ → DeskView → DeskView × Result (Unit {0}) WinFault
-byte_line_call down window byte n desk = if down then line_down_call desk window byte n else line_across_call desk window byte n
-
--- What a screen is asked of its terminal: whether that has colours, or which characters it shows.
-abbrev pub terminal_number : Bool → ProfileView → ℕ
-terminal_number colours profile = if colours then as_number (has_colours profile) else shown_set profile
-
--- What is asked of a window that the screen lends.
-abbrev pub window_property : (LentView → Reply) → ℕ → ScreenState → Reply
-window_property asked window screen = lent_reply asked (window_answer screen.desk window)
-
--- A border of eight bytes, in the order of wborder().
-abbrev pub sides_call : (window left right top bottom top_left top_right bottom_left bottom_right : ℕ) → DeskView → DeskView × Result (Unit {0}) WinFault
-sides_call window left right top bottom top_left top_right bottom_left bottom_right desk =
-    border_call desk window (left ∷ right ∷ top ∷ bottom ∷ top_left ∷ top_right ∷ bottom_left ∷ bottom_right ∷ [])

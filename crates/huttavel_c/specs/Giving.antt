@@ -29,10 +29,6 @@ abbrev pub with_given : (CellView → DeskView × Result (Unit {0}) WinFault) �
 with_given call desk (Ok cell) = ((call cell).0, done_number (call cell).1)
 with_given call desk (Err fault) = (desk, fault)
 
--- A background is changed, or set, to a given cell.
-abbrev pub background_given_call : Bool → ℕ → Result CellView ℕ → DeskView → DeskView × ℕ
-background_given_call changes window given desk = with_given (background_call changes desk window) desk given
-
 -- An answer that is shown as it is.
 abbrev pub unchanged : {A : Type 0} → A → A
 unchanged answer = answer

@@ -25,7 +25,6 @@ use Rattle.huttavel_c.specs.Sending.{writer}
 use Rattle.huttavel_c.specs.declared.answers.Reply.{Reply}
 use Rattle.huttavel_c.specs.declared.sessions.Kept.{Kept}
 use Rattle.huttavel_c.specs.declared.sessions.Session.{Session}
-use Rattle.huttavel_c.specs.declared.handles.Handle.{Handle}
 
 -- The number of a kind of capabilities.
 abbrev pub kind_number : Kind → ℕ
@@ -137,12 +136,6 @@ Opens IsMade IsNotMade None new reply = MatchOption new (IsNotMade reply) (λ ke
 abbrev pub OpensAs : (Opening → Kept → Type 0) → (Reply → Type 0) → ℕ → Option Kept → Option Kept → Reply → Type 0
 OpensAs IsMade IsNotMade number old new reply =
     MatchOption (opening_given number) (Opens (λ kept. ⊥) (λ given. given ≡ refused 5) old new reply) (λ asked. Opens (IsMade asked) IsNotMade old new reply)
-
--- A closed handle gets a screen of this size, opened with the opening of a number on the terminal of an entry that is
--- known so, or stays closed.
-abbrev pub OpensFrom : (Description → Type 0) → (Reply → Type 0) → ℕ → ℕ → ℕ → Handle → Handle → Reply → Type 0
-OpensFrom IsKnown IsNone rows columns number old new reply =
-    OpensAs (λ given. OfScreen (IsOpenedFrom IsKnown given rows columns)) (IsClosedFrom IsKnown IsNone rows columns) number old.held.value new.held.value reply
 
 -- The number that closing gives.
 abbrev pub close_number : Option Kept → ℕ

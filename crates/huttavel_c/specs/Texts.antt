@@ -1,7 +1,7 @@
 -- Texts in UTF-8 that C gives, which need not be well formed. RFC 3629, section 3.
 use Rattle.std.specs.Prelude.{ℕ, ◌≡◌, ◌⊎◌, List, [], ◌∷◌, ◌++◌, IsOk, encode_utf8, false, length, replicate, if◌then◌else◌}
 use Rattle.std.specs.Char.{IsScalar, is_control}
-use Rattle.std.specs.Str.{IsUtf8, StartsWithNoChar, chars}
+use Rattle.std.specs.Str.{IsUtf8, StartsWithNoChar}
 use Rattle.scr_cells.specs.Characters.{is_character}
 use Rattle.scr_windows.specs.Calls.Adding.{add_str_call, fitted}
 use Rattle.huttavel_c.specs.Asking.{on_windows}
@@ -20,10 +20,6 @@ pub data AreRead : List ℕ → List ℕ → Type 0 where
 -- Bytes at the front of others are read as these, whatever the rest is read as.
 abbrev pub AreReadFirst : (bytes rest codes : List ℕ) → Type 0
 AreReadFirst bytes rest codes = (more : List ℕ) → AreRead rest more → AreRead bytes (codes ++ more)
-
--- What bytes are read as is added to a text, up to the rest of them.
-abbrev pub AddsRead : (bytes rest old new : List ℕ) → Type 0
-AddsRead bytes rest old new = (codes : List ℕ) × (chars new ≡ chars old ++ codes) × AreReadFirst bytes rest codes
 
 -- A text is added, as it is read. Or memory ran out for one that is not well formed, in a call that nothing else
 -- refuses, and all stays as it was.

@@ -34,7 +34,7 @@ fn pressed(key: Option<Key>) -> Reply
 /// Reads a byte of the keyboard, by `Screen::key_byte`. Refused: CLOSED; QUEUE_FULL, and the byte is not read.
 #[unsafe(no_mangle)]
 pub extern "C" fn huttavel_held_key_byte(handle: &mut Handle, byte: u8) -> u32
-    ensures { Asked (λ screen. on_keys screen (byte_read screen.keys byte)) read_number 1 handle.old handle.new result }
+    ensures { Asked (λ screen. on_keys screen (byte_read screen.keys byte)) read_number 1 handle.old.held.value handle.new.held.value result }
 {
     handle.lend(CLOSED, |session| read(session.screen.key_byte(byte)))
 }
@@ -43,7 +43,7 @@ pub extern "C" fn huttavel_held_key_byte(handle: &mut Handle, byte: u8) -> u32
 /// CLOSED; QUEUE_FULL.
 #[unsafe(no_mangle)]
 pub extern "C" fn huttavel_held_key_idle(handle: &mut Handle) -> u32
-    ensures { Asked (λ screen. on_keys screen (idle_read screen.keys)) read_number 1 handle.old handle.new result }
+    ensures { Asked (λ screen. on_keys screen (idle_read screen.keys)) read_number 1 handle.old.held.value handle.new.held.value result }
 {
     handle.lend(CLOSED, |session| read(session.screen.key_idle()))
 }
@@ -52,7 +52,7 @@ pub extern "C" fn huttavel_held_key_idle(handle: &mut Handle) -> u32
 /// byte or the position of the key's text. Refused: CLOSED; NO_KEY.
 #[unsafe(no_mangle)]
 pub extern "C" fn huttavel_held_next_key(handle: &mut Handle) -> Reply
-    ensures { Asked (λ screen. on_keys screen (key_taken screen.keys)) key_reply (refused 1) handle.old handle.new result }
+    ensures { Asked (λ screen. on_keys screen (key_taken screen.keys)) key_reply (refused 1) handle.old.held.value handle.new.held.value result }
 {
     handle.lend(refused(CLOSED), |session| pressed(session.screen.key()))
 }

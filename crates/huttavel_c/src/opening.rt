@@ -5,7 +5,7 @@ ghost use Rattle.scr_term.specs.Operations.Admission.{IsSuitable};
 ghost use Rattle.ti_caps.specs.Bundled.{IsBundled};
 ghost use Rattle.ti_database.specs.Search.{IsEntry};
 ghost use Rattle.huttavel_c.specs.Asking.{OfScreen};
-ghost use Rattle.huttavel_c.specs.Opening.{IsClosedFrom, IsNoEntry, IsNoMemory, IsNoSize, IsOpenedFrom, IsOpenedOn, IsSizeGiven, IsUnopenedOn, OpensFrom, about, asked_in, close_number, fresh_writer, kind_number, open_reply, opening_given, profile_reply};
+ghost use Rattle.huttavel_c.specs.Opening.{IsClosedFrom, IsNoEntry, IsNoMemory, IsNoSize, IsOpenedFrom, IsOpenedOn, IsSizeGiven, IsUnopenedOn, OpensAs, about, asked_in, close_number, fresh_writer, kind_number, open_reply, opening_given, profile_reply};
 ghost use Rattle.huttavel_c.specs.Replies.{refused};
 ghost use Rattle.huttavel_c.specs.Sending.{writer};
 
@@ -253,7 +253,7 @@ pub extern "C" fn huttavel_held_open(
     rows: u32,
     columns: u32,
 ) -> Reply
-    ensures { OpensFrom (IsEntry entry.now) (IsNoEntry entry.now) rows columns opening handle.old handle.new result }
+    ensures { OpensAs (λ given. OfScreen (IsOpenedFrom (IsEntry entry.now) given rows columns)) (IsClosedFrom (IsEntry entry.now) (IsNoEntry entry.now) rows columns) opening handle.old.held.value handle.new.held.value result }
 {
     if handle.is_open() {
         return refused(IS_OPEN);
@@ -274,7 +274,7 @@ pub extern "C" fn huttavel_held_open_bundled(
     rows: u32,
     columns: u32,
 ) -> Reply
-    ensures { OpensFrom IsBundled IsNoMemory rows columns opening handle.old handle.new result }
+    ensures { OpensAs (λ given. OfScreen (IsOpenedFrom IsBundled given rows columns)) (IsClosedFrom IsBundled IsNoMemory rows columns) opening handle.old.held.value handle.new.held.value result }
 {
     if handle.is_open() {
         return refused(IS_OPEN);

@@ -1,6 +1,6 @@
 //! Starts, updates and finishes: the bytes that they make wait until the terminal has accepted them.
 ghost use Rattle.std.specs.Prelude.{◌≡◌, ◌++◌, ◌≤◌, ◌⊎◌, None, drop, length, min, take};
-ghost use Rattle.huttavel_c.specs.Asking.{Asked, Makes, OfScreenOr};
+ghost use Rattle.huttavel_c.specs.Asking.{Asked, Makes, OfEntry, OfScreen};
 ghost use Rattle.huttavel_c.specs.Giving.{unchanged};
 ghost use Rattle.huttavel_c.specs.Sending.{Copies, Finishes, Starts, Takes, Updates, Waits, forgetting, sent_number};
 
@@ -70,7 +70,7 @@ fn drop_front(waiting: &mut Vec<u8>, count: usize)
 
 // Copies bytes that wait for the terminal of a screen.
 fn copy_waiting(kept: &Kept, bytes: &mut [u8]) -> usize
-    ensures screen { OfScreenOr (λ session. Copies bytes.old bytes.new session session result) ((result ≡ 0) × (bytes.new ≡ bytes.old)) kept.now }
+    ensures screen { OfScreen (λ session. Copies bytes.old bytes.new session session result) kept.now ⊎ (OfEntry (λ _. Unit {0}) kept.now × (result ≡ 0) × (bytes.new ≡ bytes.old)) }
 {
     match kept {
         Kept::Screen(session) => copy_front(&session.out.writer, bytes),
@@ -149,7 +149,7 @@ pub extern "C" fn huttavel_held_took(handle: &mut Handle, count: usize) -> u32
 /// Refused: CLOSED.
 #[unsafe(no_mangle)]
 pub extern "C" fn huttavel_held_failed(handle: &mut Handle) -> u32
-    ensures { Asked forgetting unchanged 1 handle.old handle.new result }
+    ensures { Asked forgetting unchanged 1 handle.old.held.value handle.new.held.value result }
 {
     handle.lend(CLOSED, |session| {
         session.screen.forget();

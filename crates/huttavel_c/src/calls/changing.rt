@@ -1,11 +1,14 @@
 //! Calls on windows that give nothing: each is one call of `curses::Screen`.
 ghost use Rattle.std.specs.Prelude.{◌≡◌, if◌then◌else◌};
 ghost use Rattle.scr_virtual.specs.Pairs.{set_pair_of_call};
+ghost use Rattle.scr_windows.specs.Calls.Erasing.{clear_to_eol_call};
+ghost use Rattle.scr_windows.specs.Calls.Scrolling.{delete_byte_call, insert_delete_lines_call, scroll_call};
 ghost use Rattle.scr_windows.specs.Calls.Settings.{color_set_call, move_cursor_call, set_region_call};
 ghost use Rattle.scr_windows.specs.Calls.Touching.{touch_all_call};
-ghost use Rattle.huttavel_c.specs.Families.{line_call, lines_call, number_call, setting_call, window_call};
+ghost use Rattle.huttavel_c.specs.Asking.{Asked, on_virtual, on_windows};
+ghost use Rattle.huttavel_c.specs.Families.{number_call, setting_call, window_call};
+ghost use Rattle.huttavel_c.specs.Replies.{done_number};
 ghost use Rattle.huttavel_c.specs.Showing.{colour_given};
-ghost use Rattle.huttavel_c.specs.Asking.{Done, on_desk, on_picture};
 
 use crate::answers::{DEFAULT_COLOUR, done};
 use crate::faults::CLOSED;
@@ -16,7 +19,7 @@ use curses::{Attrs, Win};
 #[unsafe(no_mangle)]
 #[tactic(auto, unfolding(crate::specs::Families::window_call))]
 pub extern "C" fn huttavel_held_on_window(handle: &mut Handle, window: u32, kind: u32) -> u32
-    ensures { Done (window_call kind window) handle.old handle.new result }
+    ensures { Asked (window_call kind window) done_number 1 handle.old.held.value handle.new.held.value result }
 {
     handle.lend(CLOSED, |session| match kind {
         0 => done(session.screen.delete(Win(window))),
@@ -34,7 +37,7 @@ pub extern "C" fn huttavel_held_on_window(handle: &mut Handle, window: u32, kind
 /// NO_WINDOW.
 #[unsafe(no_mangle)]
 pub extern "C" fn huttavel_held_touch(handle: &mut Handle, window: u32, touched: bool) -> u32
-    ensures { Done (on_desk (λ desk. touch_all_call desk window touched)) handle.old handle.new result }
+    ensures { Asked (λ screen. on_windows screen (touch_all_call screen.desk window touched)) done_number 1 handle.old.held.value handle.new.held.value result }
 {
     handle.lend(CLOSED, |session| match touched {
         true => done(session.screen.touch_window(Win(window))),
@@ -46,7 +49,7 @@ pub extern "C" fn huttavel_held_touch(handle: &mut Handle, window: u32, touched:
 /// `Screen::clear_to_eol`. Refused: CLOSED; NO_WINDOW.
 #[unsafe(no_mangle)]
 pub extern "C" fn huttavel_held_cut_line(handle: &mut Handle, window: u32, deletes: bool) -> u32
-    ensures { Done (on_desk (line_call deletes window)) handle.old handle.new result }
+    ensures { Asked (λ screen. on_windows screen (if deletes then delete_byte_call screen.desk window else clear_to_eol_call screen.desk window)) done_number 1 handle.old.held.value handle.new.held.value result }
 {
     handle.lend(CLOSED, |session| match deletes {
         true => done(session.screen.delete_byte(Win(window))),
@@ -63,7 +66,7 @@ pub extern "C" fn huttavel_held_move_cursor(
     row: u32,
     column: u32,
 ) -> u32
-    ensures { Done (on_desk (λ desk. move_cursor_call desk window row column)) handle.old handle.new result }
+    ensures { Asked (λ screen. on_windows screen (move_cursor_call screen.desk window row column)) done_number 1 handle.old.held.value handle.new.held.value result }
 {
     handle.lend(CLOSED, |session| {
         done(session.screen.move_cursor(Win(window), row, column))
@@ -80,7 +83,7 @@ pub extern "C" fn huttavel_held_with_numbers(
     second: u32,
     kind: u32,
 ) -> u32
-    ensures { Done (number_call kind window first second) handle.old handle.new result }
+    ensures { Asked (number_call kind window first second) done_number 1 handle.old.held.value handle.new.held.value result }
 {
     handle.lend(CLOSED, |session| {
         let (screen, win) = (&mut session.screen, Win(window));
@@ -103,7 +106,7 @@ pub extern "C" fn huttavel_held_set_region(
     top: u32,
     bottom: u32,
 ) -> u32
-    ensures { Done (on_desk (λ desk. set_region_call desk window top bottom)) handle.old handle.new result }
+    ensures { Asked (λ screen. on_windows screen (set_region_call screen.desk window top bottom)) done_number 1 handle.old.held.value handle.new.held.value result }
 {
     handle.lend(CLOSED, |session| {
         done(session.screen.set_region(Win(window), top, bottom))
@@ -113,7 +116,7 @@ pub extern "C" fn huttavel_held_set_region(
 /// Sets the colour pair that bytes are written with, by `Screen::color_set`. Refused: CLOSED; NO_WINDOW; BAD_PAIR.
 #[unsafe(no_mangle)]
 pub extern "C" fn huttavel_held_color_set(handle: &mut Handle, window: u32, pair: u32) -> u32
-    ensures { Done (on_desk (λ desk. color_set_call desk window pair)) handle.old handle.new result }
+    ensures { Asked (λ screen. on_windows screen (color_set_call screen.desk window pair)) done_number 1 handle.old.held.value handle.new.held.value result }
 {
     handle.lend(CLOSED, |session| {
         done(session.screen.color_set(Win(window), pair))
@@ -129,7 +132,7 @@ pub extern "C" fn huttavel_held_set_pair(
     foreground: u32,
     background: u32,
 ) -> u32
-    ensures { Done (on_picture (λ virtual. set_pair_of_call virtual pair (colour_given foreground) (colour_given background))) handle.old handle.new result }
+    ensures { Asked (λ screen. on_virtual screen (set_pair_of_call screen.virtual pair (colour_given foreground) (colour_given background))) done_number 1 handle.old.held.value handle.new.held.value result }
 {
     handle.lend(CLOSED, |session| {
         done(
@@ -156,7 +159,7 @@ fn colour_given(number: u32) -> Option<u32>
 #[unsafe(no_mangle)]
 #[tactic(auto, unfolding(crate::specs::Families::setting_call))]
 pub extern "C" fn huttavel_held_set(handle: &mut Handle, window: u32, bits: u8, kind: u32) -> u32
-    ensures { Done (setting_call kind window bits) handle.old handle.new result }
+    ensures { Asked (setting_call kind window bits) done_number 1 handle.old.held.value handle.new.held.value result }
 {
     handle.lend(CLOSED, |session| match kind {
         0 => done(session.screen.scroll_ok(Win(window), bits != 0)),
@@ -177,7 +180,7 @@ pub extern "C" fn huttavel_held_move_lines(
     n: i32,
     scrolls: bool,
 ) -> u32
-    ensures { Done (on_desk (lines_call scrolls window n)) handle.old handle.new result }
+    ensures { Asked (λ screen. on_windows screen (if scrolls then scroll_call screen.desk window n else insert_delete_lines_call screen.desk window n)) done_number 1 handle.old.held.value handle.new.held.value result }
 {
     handle.lend(CLOSED, |session| match scrolls {
         true => done(session.screen.scroll(Win(window), n)),

@@ -4,9 +4,9 @@ ghost use Rattle.std.specs.Prelude.{◌≡◌, ℕ};
 ghost use Rattle.scr_windows.specs.Calls.Adding.{add_character_call, insert_character_call};
 ghost use Rattle.scr_windows.specs.Calls.Borders.{border_of_call};
 ghost use Rattle.scr_windows.specs.DeskViews.{DeskView};
-ghost use Rattle.huttavel_c.specs.Asking.{Asked, Done, on_desk};
+ghost use Rattle.huttavel_c.specs.Asking.{Asked, on_windows};
 ghost use Rattle.huttavel_c.specs.Characters.{Answers, AreAlike, line_of_call, list_of};
-ghost use Rattle.huttavel_c.specs.Giving.{background_given_call, character_cell_given, unchanged};
+ghost use Rattle.huttavel_c.specs.Giving.{background_call, character_cell_given, unchanged, with_given};
 ghost use Rattle.huttavel_c.specs.Replies.{added_reply, done_number, refused};
 
 use crate::answers::{Reply, added, done, refused};
@@ -79,7 +79,7 @@ fn cell_of(code: u32, attrs: u8, pair: u32) -> Result<Cell, u32>
 impl Session {
     // `Screen::add_character`.
     fn add_character(&mut self, window: u32, code: u32, attrs: u8) -> Reply
-        ensures { Answers (on_desk (λ desk. add_character_call desk window code (record { 0 = attrs }))) added_reply self.old self.new result }
+        ensures { Answers (λ screen. on_windows screen (add_character_call screen.desk window code (record { 0 = attrs }))) added_reply self.old self.new result }
     {
         let character = character_of(code);
         added(
@@ -90,7 +90,7 @@ impl Session {
 
     // `Screen::insert_character`.
     fn insert_character(&mut self, window: u32, code: u32, attrs: u8) -> u32
-        ensures { Answers (on_desk (λ desk. insert_character_call desk window code (record { 0 = attrs }))) done_number self.old self.new result }
+        ensures { Answers (λ screen. on_windows screen (insert_character_call screen.desk window code (record { 0 = attrs }))) done_number self.old self.new result }
     {
         let character = character_of(code);
         done(
@@ -101,7 +101,7 @@ impl Session {
 
     // `Screen::line_down_of`, or `Screen::line_across_of`.
     fn line_of(&mut self, window: u32, code: u32, n: u32, down: bool) -> u32
-        ensures { Answers (on_desk (λ desk. line_of_call down desk window code n)) done_number self.old self.new result }
+        ensures { Answers (λ screen. on_windows screen (line_of_call down screen.desk window code n)) done_number self.old self.new result }
     {
         let character = character_of(code);
         match down {
@@ -112,7 +112,7 @@ impl Session {
 
     // `Screen::border_of`.
     fn border_of(&mut self, window: u32, border: &Border) -> u32
-        ensures { Answers (on_desk (λ desk. border_of_call desk window (list_of border.now))) done_number self.old self.new result }
+        ensures { Answers (λ screen. on_windows screen (border_of_call screen.desk window (list_of border.now))) done_number self.old self.new result }
     {
         let characters = characters_of(border);
         done(self.screen.border_of(Win(window), characters))
@@ -128,7 +128,7 @@ pub extern "C" fn huttavel_held_add_character(
     code: u32,
     attrs: u8,
 ) -> Reply
-    ensures { Asked (on_desk (λ desk. add_character_call desk window code (record { 0 = attrs }))) added_reply (refused 1) handle.old handle.new result }
+    ensures { Asked (λ screen. on_windows screen (add_character_call screen.desk window code (record { 0 = attrs }))) added_reply (refused 1) handle.old.held.value handle.new.held.value result }
 {
     handle.lend(refused(CLOSED), |session| {
         session.add_character(window, code, attrs)
@@ -144,7 +144,7 @@ pub extern "C" fn huttavel_held_insert_character(
     code: u32,
     attrs: u8,
 ) -> u32
-    ensures { Done (on_desk (λ desk. insert_character_call desk window code (record { 0 = attrs }))) handle.old handle.new result }
+    ensures { Asked (λ screen. on_windows screen (insert_character_call screen.desk window code (record { 0 = attrs }))) done_number 1 handle.old.held.value handle.new.held.value result }
 {
     handle.lend(CLOSED, |session| {
         session.insert_character(window, code, attrs)
@@ -161,7 +161,7 @@ pub extern "C" fn huttavel_held_line_of(
     n: u32,
     down: bool,
 ) -> u32
-    ensures { Done (on_desk (λ desk. line_of_call down desk window code n)) handle.old handle.new result }
+    ensures { Asked (λ screen. on_windows screen (line_of_call down screen.desk window code n)) done_number 1 handle.old.held.value handle.new.held.value result }
 {
     handle.lend(CLOSED, |session| session.line_of(window, code, n, down))
 }
@@ -170,7 +170,7 @@ pub extern "C" fn huttavel_held_line_of(
 /// NOT_ONE_COLUMN.
 #[unsafe(no_mangle)]
 pub extern "C" fn huttavel_held_border_of(handle: &mut Handle, window: u32, border: &Border) -> u32
-    ensures { Done (on_desk (λ desk. border_of_call desk window (list_of border.now))) handle.old handle.new result }
+    ensures { Asked (λ screen. on_windows screen (border_of_call screen.desk window (list_of border.now))) done_number 1 handle.old.held.value handle.new.held.value result }
 {
     handle.lend(CLOSED, |session| session.border_of(window, border))
 }
@@ -187,7 +187,7 @@ pub extern "C" fn huttavel_held_background_with(
     pair: u32,
     changes: bool,
 ) -> u32
-    ensures { Asked (on_desk (background_given_call changes window (character_cell_given code attrs pair))) unchanged 1 handle.old handle.new result }
+    ensures { Asked (λ screen. on_windows screen (with_given (background_call changes screen.desk window) screen.desk (character_cell_given code attrs pair))) unchanged 1 handle.old.held.value handle.new.held.value result }
 {
     let given = cell_of(code, attrs, pair);
     handle.lend(CLOSED, |session| session.background(window, given, changes))

@@ -1,8 +1,8 @@
 //! Cells that are copied to C.
 ghost use Rattle.std.specs.Prelude.{◌≡◌, ◌++◌, ◌⊎◌, None, drop, length, map, min, take};
 ghost use Rattle.scr_windows.specs.Calls.Reading.{row_answer};
-ghost use Rattle.huttavel_c.specs.Asking.{Makes};
-ghost use Rattle.huttavel_c.specs.Copying.{CopiesCells, CopiesCellsOf, IsGiven, cells_from};
+ghost use Rattle.huttavel_c.specs.Asking.{Makes, OfEntry, OfScreen};
+ghost use Rattle.huttavel_c.specs.Copying.{CopiesCells, IsGiven, cells_from};
 ghost use Rattle.huttavel_c.specs.Replies.{given_cell, no_length};
 
 use crate::answers::{GivenCell, Length, given, no_length};
@@ -40,7 +40,7 @@ fn copy_row(screen: &Screen, window: u32, row: u32, column: u32, cells: &mut [Gi
 
 // The same of the screen that is held, if one is.
 fn copy_held(kept: &Kept, window: u32, row: u32, column: u32, cells: &mut [GivenCell]) -> Length
-    ensures { CopiesCellsOf window row column cells.old cells.new kept.now result }
+    ensures { OfScreen (λ session. CopiesCells window row column cells.old cells.new session session result) kept.now ⊎ (OfEntry (λ _. Unit {0}) kept.now × (result ≡ no_length 1) × (cells.new ≡ cells.old)) }
 {
     match kept {
         Kept::Screen(session) => copy_row(&session.screen, window, row, column, cells),

@@ -2,9 +2,9 @@
 ghost use Rattle.scr_windows.specs.Calls.Copying.{copy_call, overlay_call};
 ghost use Rattle.scr_windows.specs.Calls.Resizing.{resize_window_call};
 ghost use Rattle.scr_virtual.specs.Taking.{take_pad_call};
-ghost use Rattle.huttavel_c.specs.Asking.{AskedForMemory, Done, DoneWithMemory, on_desk, on_picture_and_desk};
+ghost use Rattle.huttavel_c.specs.Asking.{Asked, AskedForMemory, on_both, on_windows};
 ghost use Rattle.huttavel_c.specs.Families.{making_call};
-ghost use Rattle.huttavel_c.specs.Replies.{made_reply, refused};
+ghost use Rattle.huttavel_c.specs.Replies.{done_number, made_reply, refused};
 
 use crate::answers::{Reply, done, made, refused};
 use crate::faults::CLOSED;
@@ -26,7 +26,7 @@ pub extern "C" fn huttavel_held_make(
     column: u32,
     kind: u32,
 ) -> Reply
-    ensures { AskedForMemory (making_call kind window rows columns row column) made_reply (refused 4) (refused 1) handle.old handle.new result }
+    ensures { AskedForMemory (making_call kind window rows columns row column) made_reply (refused 4) (refused 1) handle.old.held.value handle.new.held.value result }
 {
     handle.lend(refused(CLOSED), |session| {
         let screen = &mut session.screen;
@@ -50,7 +50,7 @@ pub extern "C" fn huttavel_held_resize_window(
     rows: u32,
     columns: u32,
 ) -> u32
-    ensures { DoneWithMemory (on_desk (λ desk. resize_window_call desk window rows columns)) handle.old handle.new result }
+    ensures { AskedForMemory (λ screen. on_windows screen (resize_window_call screen.desk window rows columns)) done_number 4 1 handle.old.held.value handle.new.held.value result }
 {
     handle.lend(CLOSED, |session| {
         let screen = &mut session.screen;
@@ -74,7 +74,7 @@ pub extern "C" fn huttavel_held_copy(
     right: u32,
     overlay: bool,
 ) -> u32
-    ensures { DoneWithMemory (on_desk (λ desk. copy_call desk source target row column top left bottom right overlay)) handle.old handle.new result }
+    ensures { AskedForMemory (λ screen. on_windows screen (copy_call screen.desk source target row column top left bottom right overlay)) done_number 4 1 handle.old.held.value handle.new.held.value result }
 {
     handle.lend(CLOSED, |session| {
         let (from, to) = (Win(source), Win(target));
@@ -95,7 +95,7 @@ pub extern "C" fn huttavel_held_copy_common(
     target: u32,
     overlays: bool,
 ) -> u32
-    ensures { DoneWithMemory (on_desk (λ desk. overlay_call desk source target overlays)) handle.old handle.new result }
+    ensures { AskedForMemory (λ screen. on_windows screen (overlay_call screen.desk source target overlays)) done_number 4 1 handle.old.held.value handle.new.held.value result }
 {
     handle.lend(CLOSED, |session| match overlays {
         true => done(session.screen.overlay(alloc, Win(source), Win(target))),
@@ -116,7 +116,7 @@ pub extern "C" fn huttavel_held_pad_noutrefresh(
     bottom: u32,
     right: u32,
 ) -> u32
-    ensures { Done (on_picture_and_desk (λ virtual desk. take_pad_call virtual desk window row column top left bottom right)) handle.old handle.new result }
+    ensures { Asked (λ screen. on_both screen (take_pad_call screen.virtual screen.desk window row column top left bottom right)) done_number 1 handle.old.held.value handle.new.held.value result }
 {
     handle.lend(CLOSED, |session| {
         let (screen, pad) = (&mut session.screen, Win(window));

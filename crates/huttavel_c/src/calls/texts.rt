@@ -1,11 +1,11 @@
 //! Texts in UTF-8, which need not be well formed, and how many columns their characters take.
-ghost use Rattle.std.specs.Prelude.{◌≡◌, ◌<◌, ◌≤◌, ◌++◌, IfOk, ℕ, drop, length};
+ghost use Rattle.std.specs.Prelude.{◌≡◌, ◌<◌, ◌≤◌, ◌++◌, IfOk, List, ℕ, drop, length};
 ghost use Rattle.std.specs.Char.{IsScalar};
 ghost use Rattle.std.specs.Str.{IsUtf8, chars};
 ghost use Rattle.std.specs.String.{string_bytes};
 ghost use Rattle.huttavel_c.specs.Asking.{Makes};
 ghost use Rattle.huttavel_c.specs.Replies.{refused, with_two};
-ghost use Rattle.huttavel_c.specs.Texts.{AddsRead, AddsText, AreRead, FitsIn, columns_of, shown_for};
+ghost use Rattle.huttavel_c.specs.Texts.{AddsText, AreRead, AreReadFirst, FitsIn, columns_of, shown_for};
 
 use crate::answers::{Reply, added, refused, two};
 use crate::faults::{CLOSED, NO_MEMORY, window_number};
@@ -21,7 +21,7 @@ fn read_first(bytes: &[u8], text: &mut String) -> Result<usize, NoMemory>
     requires { 0 < length bytes.now }
     ensures some { IfOk result (λ count. 0 < count) }
     ensures within { IfOk result (λ count. count ≤ length bytes.now) }
-    ensures read { IfOk result (λ count. AddsRead bytes.now (drop count bytes.now) (string_bytes text.old) (string_bytes text.new)) }
+    ensures read { IfOk result (λ count. (codes : List ℕ) × (chars (string_bytes text.new) ≡ chars (string_bytes text.old) ++ codes) × AreReadFirst bytes.now (drop count bytes.now) codes) }
 {
     match str::from_utf8(bytes) {
         Ok(whole) => {

@@ -1,11 +1,11 @@
 //! Writing bytes, lines and borders, and backgrounds: each is the call of `curses::Screen` that it names.
 ghost use Rattle.std.specs.Prelude.{[], ◌∷◌, ◌≡◌, if◌then◌else◌};
-ghost use Rattle.scr_windows.specs.Calls.Adding.{add_byte_call, add_text_call, insert_byte_call};
-ghost use Rattle.huttavel_c.specs.Asking.{Asked, Done, on_desk};
+ghost use Rattle.scr_windows.specs.Calls.Adding.{add_byte_call, add_text_call, insert_byte_call, line_across_call, line_down_call};
+ghost use Rattle.scr_windows.specs.Calls.Borders.{border_call};
+ghost use Rattle.huttavel_c.specs.Asking.{Asked, on_windows};
 ghost use Rattle.huttavel_c.specs.Characters.{Answers};
-ghost use Rattle.huttavel_c.specs.Giving.{background_call, background_given_call, cell_given, unchanged, with_given};
-ghost use Rattle.huttavel_c.specs.Replies.{added_reply, refused};
-ghost use Rattle.huttavel_c.specs.Families.{byte_line_call, sides_call};
+ghost use Rattle.huttavel_c.specs.Giving.{background_call, cell_given, unchanged, with_given};
+ghost use Rattle.huttavel_c.specs.Replies.{added_reply, done_number, refused};
 
 use crate::answers::{Reply, added, done, refused};
 use crate::faults::{BAD_PAIR, CLOSED, NOT_ASCII};
@@ -30,7 +30,7 @@ fn cell_of(byte: u8, attrs: u8, pair: u32) -> Result<Cell, u32>
 impl Session {
     // `Screen::change_background`, or `Screen::set_background`, of a cell if one is given.
     pub(crate) fn background(&mut self, window: u32, given: Result<Cell, u32>, changes: bool) -> u32
-        ensures { Answers (on_desk (λ desk. with_given (background_call changes desk window) desk given)) unchanged self.old self.new result }
+        ensures { Answers (λ screen. on_windows screen (with_given (background_call changes screen.desk window) screen.desk given)) unchanged self.old self.new result }
     {
         match (given, changes) {
             (Ok(cell), true) => done(self.screen.change_background(Win(window), cell)),
@@ -49,7 +49,7 @@ pub extern "C" fn huttavel_held_add_byte(
     byte: u8,
     attrs: u8,
 ) -> Reply
-    ensures { Asked (on_desk (λ desk. add_byte_call desk window byte (record { 0 = attrs }))) added_reply (refused 1) handle.old handle.new result }
+    ensures { Asked (λ screen. on_windows screen (add_byte_call screen.desk window byte (record { 0 = attrs }))) added_reply (refused 1) handle.old.held.value handle.new.held.value result }
 {
     handle.lend(refused(CLOSED), |session| {
         added(session.screen.add_byte(Win(window), byte, Attrs(attrs)))
@@ -60,7 +60,7 @@ pub extern "C" fn huttavel_held_add_byte(
 /// Refused: CLOSED; NO_WINDOW; NOT_ASCII.
 #[unsafe(no_mangle)]
 pub extern "C" fn huttavel_held_add_text(handle: &mut Handle, window: u32, text: &[u8]) -> Reply
-    ensures { Asked (on_desk (λ desk. add_text_call desk window text.now)) added_reply (refused 1) handle.old handle.new result }
+    ensures { Asked (λ screen. on_windows screen (add_text_call screen.desk window text.now)) added_reply (refused 1) handle.old.held.value handle.new.held.value result }
 {
     handle.lend(refused(CLOSED), |session| {
         added(session.screen.add_text(Win(window), text))
@@ -76,7 +76,7 @@ pub extern "C" fn huttavel_held_insert_byte(
     byte: u8,
     attrs: u8,
 ) -> u32
-    ensures { Done (on_desk (λ desk. insert_byte_call desk window byte (record { 0 = attrs }))) handle.old handle.new result }
+    ensures { Asked (λ screen. on_windows screen (insert_byte_call screen.desk window byte (record { 0 = attrs }))) done_number 1 handle.old.held.value handle.new.held.value result }
 {
     handle.lend(CLOSED, |session| {
         done(session.screen.insert_byte(Win(window), byte, Attrs(attrs)))
@@ -93,7 +93,7 @@ pub extern "C" fn huttavel_held_line(
     n: u32,
     down: bool,
 ) -> u32
-    ensures { Done (on_desk (byte_line_call down window byte n)) handle.old handle.new result }
+    ensures { Asked (λ screen. on_windows screen (if down then line_down_call screen.desk window byte n else line_across_call screen.desk window byte n)) done_number 1 handle.old.held.value handle.new.held.value result }
 {
     handle.lend(CLOSED, |session| match down {
         true => done(session.screen.line_down(Win(window), byte, n)),
@@ -116,7 +116,7 @@ pub extern "C" fn huttavel_held_border(
     bottom_left: u8,
     bottom_right: u8,
 ) -> u32
-    ensures { Done (on_desk (sides_call window left right top bottom top_left top_right bottom_left bottom_right)) handle.old handle.new result }
+    ensures { Asked (λ screen. on_windows screen (border_call screen.desk window (left ∷ right ∷ top ∷ bottom ∷ top_left ∷ top_right ∷ bottom_left ∷ bottom_right ∷ []))) done_number 1 handle.old.held.value handle.new.held.value result }
 {
     handle.lend(CLOSED, |session| {
         let bytes = [
@@ -145,7 +145,7 @@ pub extern "C" fn huttavel_held_background(
     pair: u32,
     changes: bool,
 ) -> u32
-    ensures { Asked (on_desk (background_given_call changes window (cell_given byte attrs pair))) unchanged 1 handle.old handle.new result }
+    ensures { Asked (λ screen. on_windows screen (with_given (background_call changes screen.desk window) screen.desk (cell_given byte attrs pair))) unchanged 1 handle.old.held.value handle.new.held.value result }
 {
     let given = cell_of(byte, attrs, pair);
     handle.lend(CLOSED, |session| session.background(window, given, changes))
